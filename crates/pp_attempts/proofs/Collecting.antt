@@ -32,7 +32,7 @@ module _ {Op : Type 0} (steps : List (StepOf Op)) (i : ℕ) (step : StepOf Op) (
   meanings_cut = ap (λ (w : List (StepOf Op)). meanings w) (cut_there steps i step there is)
       ∙ map-append meaning (take i steps) (step ∷ drop (i + 1) steps)
 
--- the peak right behind a step, and then those behind the others
+-- The peak right after a step, and then those after the others.
 pub peaks_step : {Op : Type 0} (past : List (Step Op)) (s : Step Op) (ss : List (Step Op)) →
     peaks_behind past (s ∷ ss) ≡ peak_at (is_top s ss) s (λ t. own_of t (past ++ s ∷ [])) ++ peaks_behind (past ++ s ∷ []) ss
 peaks_step {Op} past (App t id op) ss = by (goes_on t ss)

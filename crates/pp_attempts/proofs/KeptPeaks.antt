@@ -1,4 +1,4 @@
--- Proof machinery: the peak of a committed transaction behind which it undid nothing.
+-- Proof machinery: the peak of a committed transaction after which it undid nothing.
 use Rattle.std.specs.Prelude.{◌≡◌, ◌≤◌, ◌<◌, ◌+◌, ◌⊎◌, ℕ, suc, zero, Bool, true, false, cond, not, List, []}
 use Rattle.std.specs.Prelude.{◌∷◌, ◌++◌, filter, length, map, take, Option, None, Some}
 use Rattle.std.proofs.Common.{refl, sym, ap, subst, ◌∙◌, arith, append_assoc}
@@ -52,7 +52,7 @@ own_idle {Op} t xs rest a u =
     ∙ ap (λ (w : List (Item Op)). filter (λ (p : Item Op). not (has_id p.id (unapplied_ids t xs))) w)
     (applied-append t xs rest ∙ ap (λ (w : List (Item Op)). applied_items t xs ++ w) a ∙ append-nil (applied_items t xs))
 
--- a peak right behind a step: it is an APP, and the peak is its transaction's own list
+-- A peak right after a step: it is an APP, and the peak is its transaction's own list.
 peak_there : {Op : Type 0} (top : Bool) (s : Step Op) (own : Name → List (Item Op)) (q : Peak Op) → In q (peak_at top s own)
     → (id : ℕ) × (op : Op) × (s ≡ App q.tx id op) × (q.ops ≡ own q.tx)
 peak_there {Op} true (App t id op) own q (inl e) =
@@ -70,7 +70,7 @@ peak_there top (Cmt t) own q never = absurd never
 peak_there top (Quit t) own q never = absurd never
 peak_there top (Note t) own q never = absurd never
 
--- the peaks behind a step: the one right behind it, if one is there, or one behind a later step
+-- The peaks after a step: the one right after it, if one is there, or one after a later step.
 peak_cases : {Op : Type 0} (past : List (Step Op)) (s : Step Op) (ss : List (Step Op)) (q : Peak Op) → In q (peaks_behind past (s ∷ ss))
     → In q (peak_at (is_top s ss) s (λ u. own_of u (past ++ s ∷ []))) ⊎ In q (peaks_behind (past ++ s ∷ []) ss)
 peak_cases {Op} past s ss q i = in_cases q (peak_at (is_top s ss) s (λ u. own_of u (past ++ s ∷ []))) (peaks_behind (past ++ s ∷ []) ss)

@@ -65,7 +65,7 @@ but_last-take {A} (x ∷ y ∷ xs) =
     ap (λ (w : List A). x ∷ w) (but_last-take (y ∷ xs) ∙ ap (λ (k : ℕ). take k (y ∷ xs)) (let m : length (y ∷ xs) - 1 ≡ length xs = omega arith in m))
     ∙ ap (λ (k : ℕ). take k (x ∷ y ∷ xs)) n
 
--- the steps that go before a step and those that come behind
+-- the steps that go before a step and those that come after
 module _ {Op : Type 0} (past rest : List (Step Op)) (s : Step Op) (orderly : IsOrderly (past ++ s ∷ rest)) where
   -- an id that is undone was applied before, so it is not applied again
   not_undone : (t u : Name) (id : ℕ) (op : Op) → s ≡ App u id op → In id (unapplied_ids t past) → ⊥

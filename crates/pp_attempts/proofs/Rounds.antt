@@ -113,7 +113,7 @@ module _ {Shape State Op Undo : Type 0} (o : Object Shape State Op Undo) (ps : L
             spent = skipped_spent ps at.position (positions_of behind) (length done) first now spent_here;
           }
 
-      -- the other operations are tried behind what is shared
+      -- the other operations are tried after what is shared
       module _ (less : List (AppliedOp Op Undo)) (others : List Op) (enough : at.shared ≤ length done) (taken : less ≡ take at.shared done)
           (are : others ≡ take (at.to - at.from) (drop at.from candidates.ops.items)) where
         -- The shared operations and the others are together those of the candidate's attempt.
@@ -187,7 +187,7 @@ module _ {Shape State Op Undo : Type 0} (o : Object Shape State Op Undo) (ps : L
 
 module _ {Shape State Op Undo : Type 0} (o : Object Shape State Op Undo) (shape : Shape) (D : List (CommittedTx Op)) (i : ℕ) (s : State) (at : IsStateAt o shape D i s)
     (ps : List (Peak Op)) (runs : MayRun o shape D ps) where
-  -- the peaks may be tried behind the first i committed transactions
+  -- The peaks may be tried after the first i committed transactions.
   pub may_be_numbered : (views : List View) (candidates : Candidates Op) → length views ≡ length ps → AreCandidates ps views candidates → MayBeNumbered o s ps views candidates
   may_be_numbered views candidates long cs = record {
     long = long;

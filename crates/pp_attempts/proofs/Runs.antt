@@ -22,7 +22,7 @@ use Rattle.pp_model.proofs.Steps.{last_holds, own_items-append, there_holds}
 use Rattle.pp_model.proofs.Trace.{Traced}
 use Rattle.pp_attempts.specs.Peaks.{IsOrderly}
 
--- an element with another behind it
+-- An element with another after it.
 before_cut : {A : Type 0} (x y : A) (xs : List A) → Before x y xs → (p r : List A) × (xs ≡ p ++ y ∷ r) × In x p
 before_cut x y [] h = absurd h
 before_cut {A} x y (z ∷ xs) (inl h) = let r = cut y xs h.1 in (z ∷ r.0, r.1, ap (λ (w : List A). z ∷ w) r.2, inl h.0)

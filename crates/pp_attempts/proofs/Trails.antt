@@ -89,7 +89,7 @@ module _ {Shape State Op Undo : Type 0} (o : Object Shape State Op Undo) where
       }
 
   module _ (laws : IsLawful o) where
-    -- a log goes on by what is allowed behind it
+    -- A log goes on by what is allowed after it.
     pub log_further : (s : State) (b x : List Op) → IsLog o s b → AllowedFrom o s x → AllRanged o x → IsLog o (state_from o s x) (b ++ x)
     log_further s b [] h k r = subst (λ (w : List Op). IsLog o s w) (sym (append-nil b)) h
     log_further s b (a ∷ x) h k r = subst (λ (w : List Op). IsLog o (state_from o (o.next s a) x) w) (append_assoc b (a ∷ []) x)

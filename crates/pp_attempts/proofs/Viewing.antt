@@ -217,7 +217,7 @@ module _ {Shape State Op Undo : Type 0} (o : Object Shape State Op Undo) where
         same = same;
       }
 
-  -- the state one operation on, and behind the last one
+  -- The state one operation on, and after the last one.
   pub state_next : (s t u : State) (l : List Op) (i : ℕ) (a : Op) → i < length l → a ≡ get_or l i a → t ≡ state_from o s (take i l) → u ≡ o.next t a
       → u ≡ state_from o s (take (i + 1) l)
   state_next s t u l i a there is leads e = e ∙ ap (λ (w : State). o.next w a) leads ∙ sym (state-append o s (take i l) (a ∷ []))

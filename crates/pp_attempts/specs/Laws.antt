@@ -10,14 +10,14 @@ use Rattle.pp_model.specs.Serial.{Attempt, attempts, committed_tx, own_of, unapp
 use Rattle.pp_attempts.specs.Peaks.{IsOrderly, Peak, goes_on, peaks}
 use Rattle.pp_attempts.specs.Views.{Explains, IsLeastBelow}
 
--- t's own list right behind this APP step is a peak, and t undid nothing behind it.
+-- t's own list right after this APP step is a peak, and t undid nothing after it.
 pub record IsKeptPeak {Op : Type 0} (ss past rest : List (Step Op)) (t : Name) (id : ℕ)
     (op : Op) : Type 0 where
   pub there : ss ≡ past ++ App t id op ∷ rest
   pub top : goes_on t rest ≡ false
   pub kept : unapplied_ids t rest ≡ []
 
--- t's own list right behind the last of these steps
+-- t's own list right after the last of these steps
 abbrev pub peak_behind : {Op : Type 0} → Name → List (Step Op) → Peak Op
 peak_behind t past = record { tx = t; ops = own_of t past }
 
@@ -41,8 +41,8 @@ module _ {Op State : Type 0} (O : Object Op State) where
       (h : Option (Start Op)) (ss : List (Step Op)) → StartMeets O h → RunsFrom O (first h) ss
       → IsOrderly ss
 
-  -- Of a transaction that is committed at the place behind `earlier`, the peak behind which it
-  -- undid nothing is its last one, and its view is a number of at most that place, from 0.
+  -- If a transaction is committed after the transactions `earlier`, the peak after which it undid
+  -- nothing is its last one. The number of its view is at most the number of `earlier`.
   abbrev pub SeesKeptPeaks : Option (Start Op) → List (Step Op) → Type 0
   SeesKeptPeaks h ss =
       (past rest : List (Step Op)) (t : Name) (id : ℕ) (op : Op) (earlier later : List (Attempt Op))

@@ -31,7 +31,7 @@ own_after t (Cmt u) own = own
 own_after t (Quit u) own = own
 own_after t (Note u) own = own
 
--- the peak right behind the step, if there is one and t's own list is `own t`
+-- the peak right after the step, if there is one and t's own list is `own t`
 abbrev pub peak_at : {Op : Type 0} → Bool → Step Op → (Name → List (Item Op)) → List (Peak Op)
 peak_at top (App t id op) own = cond top (record { tx = t; ops = own t } ∷ []) []
 peak_at top (Begin u p b) own = []

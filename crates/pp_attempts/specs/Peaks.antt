@@ -31,8 +31,8 @@ goes_on t (Cmt u ∷ ss) = goes_on t ss
 goes_on t (Quit u ∷ ss) = goes_on t ss
 goes_on t (Note u ∷ ss) = goes_on t ss
 
--- The peaks right behind the APP steps of `ss`, which follow the steps `past`: there is one right
--- behind each, unless its transaction goes on, and it has the transaction's own list there.
+-- The peaks right after the APP steps of `ss`, which follow the steps `past`: there is one right
+-- after each, unless its transaction goes on, and it has the transaction's own list there.
 abbrev pub peaks_behind : {Op : Type 0} → List (Step Op) → List (Step Op) → List (Peak Op)
 peaks_behind past [] = []
 peaks_behind past (App t id op ∷ ss) =

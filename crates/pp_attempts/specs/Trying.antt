@@ -12,7 +12,7 @@ pub use Rattle.pp_attempts.specs.declared.trial.AppliedOp.{AppliedOp}
 use Rattle.pp_attempts.specs.Peaks.{Peak, operations}
 use Rattle.pp_attempts.specs.Views.{MayBeTried, View}
 
--- It tells the peak's transaction and how many operations it has, and no number yet.
+-- It reports the peak's transaction and how many operations it has, and no number yet.
 pub record IsUntried {Op : Type 0} (p : Peak Op) (v : View) : Type 0 where
   pub tx : v.tx ≡ p.tx
   pub ops : v.ops ≡ length p.ops
@@ -45,7 +45,7 @@ abbrev pub Share : {A : Type 0} → ℕ → List A → List A → Type 0
 Share n xs ys = take n xs ≡ take n ys
 
 -- Each candidate's peak shares what the candidate says with the peak of the one before it, the
--- first with `before`; and the last, or `before` if there is none, shares n with `behind`.
+-- first with `before`; and the last, or `before` if there is none, shares n with `after`.
 abbrev pub AreAlikeTo : {Op : Type 0} → List (Peak Op) → List (Item Op) → List Candidate → ℕ
     → List (Item Op) → Type 0
 AreAlikeTo ps before [] n behind = Share n before behind
@@ -151,7 +151,7 @@ module _ {Shape State Op Undo : Type 0} (o : Object Shape State Op Undo) where
     pub log : IsLog o s (serial_ops (take n committed))
     pub same : o.shape s ≡ shape
 
-  -- The committed transactions may be gone through, and the peaks tried behind each of them.
+  -- The committed transactions may be gone through, and the peaks tried after each of them.
   pub record MayRun (shape : Shape) (committed : List (CommittedTx Op))
       (ps : List (Peak Op)) : Type 0 where
     pub allowed : IsAllowed o shape (serial_ops committed)

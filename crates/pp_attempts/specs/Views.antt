@@ -1,4 +1,4 @@
--- Meaning: after how many committed transactions the results of a peak are what the object gives.
+-- Meaning: after how many committed transactions the results of a peak are what the object returns.
 use Rattle.std.specs.Prelude.{◌≡◌, ◌<◌, ◌+◌, ℕ, IsTrue, List, [], ◌∷◌, ◌++◌, length, take}
 use Rattle.std.specs.Prelude.{Option, None, Some}
 use Rattle.pp_model.specs.Config.{CommittedTx}
@@ -20,7 +20,7 @@ abbrev pub Explains : {Op State : Type 0} → model.Object Op State → List (Co
     → List (Item Op) → ℕ → Type 0
 Explains O committed items n = Allowed O (serial_ops (take n committed) ++ ops items)
 
--- It tells the peak's transaction, how many operations the peak has, and the least number below m
+-- It reports the peak's transaction, how many operations the peak has, and the least number below m
 -- that explains them.
 pub record IsViewBelow {Op State : Type 0} (m : ℕ) (O : model.Object Op State)
     (committed : List (CommittedTx Op)) (p : Peak Op) (v : View) : Type 0 where

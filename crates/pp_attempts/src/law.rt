@@ -15,7 +15,7 @@ pub fn orderly_law<S: Spec>()
     ensures { (shape : S.Shape) → OrderlyLaw (rules_of S.object shape) }
 {}
 
-/// If a committed transaction undid nothing behind its last peak, this has a number, which is at
+/// If a committed transaction undid nothing after its last peak, this has a number, which is at
 /// most the place of the transaction in commit order, from 0.
 pub fn kept_peak_law<S: Spec>()
     ensures { (shape : S.Shape) → KeptPeakLaw (rules_of S.object shape) }

@@ -23,7 +23,7 @@ fn common<O: Copy>(a: &[Item<O>], b: &[Item<O>]) -> usize
     count
 }
 
-/// The positions of the peaks, each behind the id of its first operation, in the order of these ids,
+/// The positions of the peaks, each after the id of its first operation, in the order of these ids,
 /// and of the positions if these are the same. Of a peak without operations the id is taken as 0.
 fn by_first_id<O: Copy>(alloc: Global, peaks: &[Peak<O>]) -> Result<Vec<(u32, usize)>, OutOfMemory>
     ensures { IfOk result (λ order. ArePositions peaks.now (length peaks.now)

@@ -24,7 +24,7 @@ pub type Peaks<O> = Sequence<Peak<O>>;
 pub enum PeakFault {
     /// All peaks have more operations than asked for, this many.
     TooMany { count: u64 },
-    /// Memory was refused.
+    /// Out of memory.
     OutOfMemory,
 }
 
@@ -49,7 +49,7 @@ impl From<AllocError> for PeakFault {
 }
 
 /// The peaks of a run, unless all of them have more than `most` operations. At most `most`
-/// operations are copied; behind these the rest is only counted.
+/// operations are copied; after these the rest is only counted.
 pub fn peaks_of<O: Copy>(
     alloc: Global,
     list: &Sequence<Step<O>>,

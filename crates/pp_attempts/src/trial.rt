@@ -13,8 +13,8 @@ pub(crate) struct AppliedOp<O: Copy, U> {
     pub(crate) undo: U,
 }
 
-/// Applies operations behind those that were applied, one after another, as far as each gives its
-/// recorded result, and answers whether all did.
+/// Applies operations after those that were applied, one after another, until one does not return
+/// its recorded result. Returns whether all did.
 pub(crate) fn apply_all<S: Spec, L: Ledger>(
     state: &mut S::State,
     done: &mut Vec<AppliedOp<S::Op, S::Undo>>,
@@ -41,7 +41,7 @@ pub(crate) fn apply_all<S: Spec, L: Ledger>(
     Ok(true)
 }
 
-/// Takes those back that were applied behind so many first ones, the last one first.
+/// Takes back those that were applied after this many first ones, the last one first.
 pub(crate) fn take_back_to<S: Spec, L: Ledger>(
     state: &mut S::State,
     done: &mut Vec<AppliedOp<S::Op, S::Undo>>,

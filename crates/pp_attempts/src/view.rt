@@ -1,4 +1,4 @@
-//! After how many committed transactions the results of peaks are what the object gives.
+//! After how many committed transactions the results of peaks are what the object returns.
 ghost use Rattle.std.specs.Prelude.{◌≡◌, ◌+◌, ◌*◌, ◌<◌, ◌≤◌, ◌^◌, ℕ, List, []};
 ghost use Rattle.std.specs.Prelude.{IfOk, OnOk, length};
 ghost use Rattle.pp_model.specs.Config.{CommittedTx as TxOf};
@@ -20,7 +20,7 @@ use pp_kind::{Applied, Spec};
 use std::alloc::Global;
 use std::sync::ledger::Ledger;
 
-/// After how many committed transactions the results of a peak are what the object gives.
+/// After how many committed transactions the results of a peak are what the object returns.
 #[derive(Clone, Copy)]
 pub struct View {
     pub tx: Name,
@@ -120,9 +120,9 @@ fn try_all<S: Spec, L: Ledger>(
     Ok(numbered)
 }
 
-/// Lets a committed transaction take effect, and tries the peaks behind it. It answers whether any
-/// peak got a number. Behind a transaction without operations the peaks give what they gave before
-/// it, and none is tried.
+/// Applies a committed transaction, and tries the peaks after it. Returns whether any peak got a
+/// number. After a transaction without operations the results are those before it, and no peak is
+/// tried.
 fn try_behind<S: Spec, L: Ledger>(
     state: &mut S::State,
     done: &mut Vec<AppliedOp<S::Op, S::Undo>>,
@@ -168,8 +168,8 @@ fn try_behind<S: Spec, L: Ledger>(
 
 /// Tries the peaks before any committed transaction and after each of them, until each has a
 /// number. Those that have one are left out if some have got one since the last time, and as many
-/// transactions have passed as had by then. So the candidates are made anew a few times, and a peak
-/// with the number n is a candidate for numbers up to 2n at most.
+/// transactions have passed as had by then. So the candidates are made again a few times, and a
+/// peak with the number n is a candidate for numbers up to 2n at most.
 fn number_all<S: Spec, L: Ledger>(
     alloc: Global,
     shape: &S::Shape,
@@ -220,9 +220,9 @@ fn number_all<S: Spec, L: Ledger>(
 }
 
 /// For each peak the least number of committed transactions after which its results are what the
-/// object gives. Entries of the peaks with one id must be one, as they are in those of a run: so
-/// peaks that begin alike are known by their ids, and for each number of committed transactions what
-/// a peak shares with the one tried before it is not applied again.
+/// object returns. Entries of the peaks with one id must be one, as they are in those of a run: so
+/// peaks that begin alike are known by their ids, and for each number of committed transactions
+/// what a peak shares with the one tried before it is not applied again.
 pub fn explain<S: Spec, L: Ledger>(
     alloc: Global,
     shape: &S::Shape,

@@ -16,7 +16,7 @@ part_at parts i b lt is = rw (drop_more parts i b lt, ← is) refl
 none_left : (parts : List Body) (i : ℕ) → length parts ≤ i → trees_of (drop i parts) ≡ NoPart
 none_left parts i le = rw (drop_all i parts le) refl
 
--- the place behind the parts so far
+-- The place after the parts so far.
 pub place_goes_on : (parts : List Body) (i : ℕ) (b : Body) (at next total : ℕ) → i < length parts → b ≡ get_or parts i b → next ≡ at + nodes (tree b)
     → at + nodes_of_all (trees_of (drop i parts)) ≡ total → next + nodes_of_all (trees_of (drop (i + 1) parts)) ≡ total
 place_goes_on parts i b at next total lt is e so_far = let here = rw (part_at parts i b lt is) at so_far in omega (arith, e, here)

@@ -9,7 +9,7 @@ use Rattle.pp_body.specs.Positions.{RestOfSome}
 use Rattle.pp_body.proofs.Patterns.{and_left, and_right, both, or_cases, or_left, or_right}
 use Rattle.pp_body.proofs.Patterns.{some_call}
 
--- what may follow, from the set or from the start where that is entered
+-- what may follow, from the set or from the start if that is entered
 abbrev pub Goes : Tree → ℕ → ℕ → Bool → List Call → Type 0
 Goes b at set m v = ((m ≡ true) × Word b v) ⊎ Rest b at set v
 

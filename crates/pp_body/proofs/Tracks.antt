@@ -1,4 +1,4 @@
--- The last set tells which words may follow.
+-- The last set determines which words may follow.
 use Rattle.std.proofs.Common.{◌≡◌, ◌<◌, ℕ, suc, ◌+◌, ◌-◌, Bool, true, false, List, [], ◌∷◌, ◌++◌}
 use Rattle.std.proofs.Common.{length, get_or, Option, Some, None, IsNone, IsSome, zero, IsTrue, ◌↔◌}
 use Rattle.std.proofs.Common.{length-append, refl, ap, sym, subst, ◌∙◌, inl, inr, arith}
@@ -92,7 +92,7 @@ sets_after_more : (b : Tree) (set : ℕ) (m : Bool) (w : List Call) (c : Call)
 sets_after_more b set m [] c = refl
 sets_after_more b set m (d ∷ w) c = ap (λ (x : List ℕ). shift b 0 set m d ∷ x) (sets_after_more b (shift b 0 set m d) false w c)
 
--- The last state of a walk that took calls is its last set, and the body is not entered anew.
+-- The last state of a walk that took calls is its last set, and the body is not entered again.
 pub last_is : (set : ℕ) (m : Bool) (ts : List ℕ) (d : ℕ) → 0 < length ts → last_state set m ts ≡ (get_or ts (length ts - 1) d, false)
 last_is set m [] d lt = absurd (omega arith)
 last_is set m (t ∷ []) d lt = refl

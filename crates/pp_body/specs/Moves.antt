@@ -73,7 +73,7 @@ abbrev mutual
   moves_of_some (Part b bs) at set c =
       either (moves b at set c) (moves_of_some bs (at + nodes b) set c)
 
--- the same, each with the place behind the parts
+-- the same, each with the place after the parts
 abbrev pub moves_in_turn_to : Trees → ℕ → ℕ → Call → Moves × ℕ
 moves_in_turn_to bs at set c = (moves_in_turn bs at set c, at + nodes_of_all bs)
 

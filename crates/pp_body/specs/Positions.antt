@@ -12,7 +12,7 @@ use Rattle.pp_core.specs.Trees.{nodes, nodes_of_all}
 abbrev pub has : ℕ → ℕ → Bool
 has set at = bit_at set at == 1
 
--- Whether the end is reached from the set, or from the start where that is entered. With `more`,
+-- Whether the end is reached from the set, or from the start if that is entered. With `more`,
 -- whether calls can lead there.
 abbrev mutual
   pub reaches : Bool → Tree → ℕ → ℕ → Bool → Bool
@@ -32,7 +32,7 @@ abbrev mutual
   reaches_some more (Part b bs) at set entered =
       reaches more b at set entered || reaches_some more bs (at + nodes b) set entered
 
--- the same, each with the place behind the parts
+-- the same, each with the place after the parts
 abbrev pub reaches_in_turn_to : Bool → Trees → ℕ → ℕ → Bool → Bool × ℕ
 reaches_in_turn_to more bs at set entered =
     (reaches_in_turn more bs at set entered, at + nodes_of_all bs)

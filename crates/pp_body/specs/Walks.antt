@@ -7,7 +7,7 @@ use Rattle.pp_core.specs.Trees.{Tree}
 use Rattle.pp_model.specs.Body.{Call, Begins, IsWord}
 use Rattle.pp_body.specs.Positions.{reaches, shift}
 
--- The tree of a body, and the positions reached behind each call that was taken.
+-- The tree of a body, and the positions reached after each call that was taken.
 pub record Walked : Type 0 where
   pub body : Option Tree
   pub reached : List ℕ
@@ -18,7 +18,7 @@ walked_code =
     code_by (Option Tree × List ℕ) (coded× (coded_option tree_code) (coded_list coded_ℕ))
     (λ w. (w.body, w.reached)) (λ p. record { body = p.0; reached = p.1 }) (λ _. refl)
 
--- the positions reached behind each of the calls
+-- the positions reached after each of the calls
 abbrev pub sets_after : Tree → ℕ → Bool → List Call → List ℕ
 sets_after b set entered [] = []
 sets_after b set entered (c ∷ cs) =

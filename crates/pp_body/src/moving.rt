@@ -32,7 +32,7 @@ const PASSING: Moves = Moves {
     skips: true,
 };
 
-/// What every call does where there is no part.
+/// What every call does if there is no part.
 const NOWHERE: Moves = Moves {
     moved: 0,
     fresh: 0,
@@ -90,7 +90,7 @@ impl Moves {
     }
 }
 
-/// The moves, and the place behind the body.
+/// The moves, and the place after the body.
 #[cycle(moves)]
 fn moves_of(body: &Body, at: u32, set: u64, call: &Call) -> (Moves, u32)
     requires { at + nodes (tree body.now) ≤ MOST_BODY_NODES }

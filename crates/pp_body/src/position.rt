@@ -13,7 +13,7 @@ pub(crate) fn has(set: u64, at: u32) -> bool
     (set >> at) & 1 == 1
 }
 
-/// Whether the end is reached, and the place behind the body.
+/// Whether the end is reached, and the place after the body.
 #[cycle(reaches)]
 pub(crate) fn reaches(more: bool, body: &Body, at: u32, set: u64, entered: bool) -> (bool, u32)
     requires { at + nodes (tree body.now) ≤ MOST_BODY_NODES }

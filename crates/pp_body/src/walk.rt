@@ -87,8 +87,8 @@ impl Walk {
         }
     }
 
-    /// Takes a call that may come next. The only error is that memory was refused, and the walk is
-    /// then as it was.
+    /// Takes a call that may come next. The only error is out of memory, and the walk is then as it
+    /// was.
     pub fn follow(&mut self, call: &Call) -> Result<(), OutOfMemory>
         requires { MayTake self.old call.now }
         ensures body { OnOk result (self.new.body ≡ self.old.body) }

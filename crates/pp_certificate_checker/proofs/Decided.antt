@@ -76,7 +76,7 @@ module _ {Shape State Op Undo : Type 0} (o : Object Shape State Op Undo) where
   abbrev Turns : Item Op → Item Op → Type 0
   Turns a b = Swaps o a.op b.op
 
-  -- the pair at a position does not swap, and so this is told
+  -- the pair at a position does not swap, and this is reported
   abbrev Stays : Step Shape Op → Item Op → Item Op → Type 0
   Stays r a b = ¬ Swaps o a.op b.op × (r ≡ Err (Pair a.id b.id))
 

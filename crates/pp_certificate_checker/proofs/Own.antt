@@ -157,7 +157,7 @@ module _ {Shape State Op Undo : Type 0} (o : Object Shape State Op Undo) (laws :
         (subst (λ (w : List ℕ). IsOf t es (ps ++ w) (ns ++ [])) (sym (append-nil is))
         (subst (λ (w : List ℕ). IsOf t es (ps ++ is) w) (sym (append-nil ns)) at))
 
-    -- behind entries alone nothing was exchanged
+    -- After entries alone nothing was exchanged.
     unturned : (l : List (Item Op)) → l ≡ es → ps ≡ []
         → (l ≡ after_exchanges es ps) × (0 ≡ length ps) × ExchangesSwap o es ps
     unturned l e none = (

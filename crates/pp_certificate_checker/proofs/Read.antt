@@ -1,4 +1,4 @@
--- Proof machinery: behind lines that are taken the verdict is that of the other lines.
+-- Proof machinery: after lines that are taken the verdict is that of the other lines.
 use Rattle.std.proofs.Common.{ℕ, suc, ◌+◌, List, [], ◌∷◌, ◌++◌, length, subst, refl, arith}
 use Rattle.std.proofs.Common.{inr, Ok, add-zero, ◌≡◌}
 use Rattle.pp_kind.specs.Object.{Object}

@@ -54,7 +54,7 @@ IsClosing n None v = v ≡ Refused n NotCertificate
 IsClosing n (Some h) v = v ≡ Holds h
 
 module _ {Shape State Op Undo : Type 0} (o : Object Shape State Op Undo) where
-  -- what the object gives for an operation behind a list
+  -- what the object returns for an operation after a list
   abbrev pub given : Shape → List (Item Op) → Op → Answer
   given shape list op = o.gives (state_after o shape (ops list)) op
 
@@ -65,7 +65,7 @@ module _ {Shape State Op Undo : Type 0} (o : Object Shape State Op Undo) where
       ⊎ ((given shape list p.op ≢ o.recorded p.op)
       × (r ≡ Err (Gives p.id (given shape list p.op))))
 
-  -- Entries come behind the head, before any exchange. An operation of other objects is not of the
+  -- Entries come after the head, before any exchange. An operation of other objects is not of the
   -- form of an entry.
   abbrev pub IsEntryTaken : Stage Shape Op → Item Op → Step Shape Op → Type 0
   IsEntryTaken Fresh p r = r ≡ Err NotCertificate
@@ -84,7 +84,7 @@ module _ {Shape State Op Undo : Type 0} (o : Object Shape State Op Undo) where
       ⊎ AtPair (λ a b. ¬ Swaps o a.op b.op × (r ≡ Err (Pair a.id b.id))) list i
       ⊎ ((length list ≤ i + 1) × (r ≡ Err Position))
 
-  -- Exchanges come behind the head, before the serial number.
+  -- Exchanges come after the head, before the serial number.
   abbrev pub AreExchangesTaken : Stage Shape Op → List ℕ → Step Shape Op → Type 0
   AreExchangesTaken Fresh is r = r ≡ Err NotCertificate
   AreExchangesTaken (Entered shape list) is r = AreExchanged shape list 0 is r
@@ -97,7 +97,7 @@ module _ {Shape State Op Undo : Type 0} (o : Object Shape State Op Undo) where
       ((n ≤ length list) × (r ≡ Ok (Ended shape list count n)))
       ⊎ ((length list < n) × (r ≡ Err Position))
 
-  -- It comes behind the head, once.
+  -- It comes after the head, once.
   abbrev pub IsSerialTaken : Stage Shape Op → ℕ → Step Shape Op → Type 0
   IsSerialTaken Fresh n r = r ≡ Err NotCertificate
   IsSerialTaken (Entered shape list) n r = IsEnded shape list 0 n r

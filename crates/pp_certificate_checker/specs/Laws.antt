@@ -67,7 +67,7 @@ Leads o read s [] t = t ≡ s
 Leads {Shape} {State} {Op} o read s (line ∷ lines) t =
     (u : Stage Shape Op) × IsTaken o s (read s line) (Ok u) × Leads o read u lines t
 
--- Behind lines that are taken, the verdict is that of the other lines from there on.
+-- After lines that are taken, the verdict is that of the other lines from there on.
 abbrev pub ReadLaw : {Shape State Op Undo : Type 0} → Object Shape State Op Undo → Type 0 → Type 0
 ReadLaw {Shape} {State} {Op} o L =
     (read : Reader L Shape Op) (lines more : List L) (n : ℕ) (s t : Stage Shape Op)
@@ -105,7 +105,7 @@ IsGoing shape (Exchanged over list count) = over ≡ shape
 IsGoing shape (Ended over list count n) = ⊥
 
 -- Each line of a certificate over these objects is read in its place as it was written. The test
--- `plain` tells which entries can be.
+-- `plain` shows which entries can be.
 pub record Spells {Shape State Op Undo L : Type 0} (o : Object Shape State Op Undo) (shape : Shape)
     (plain : Item Op → Bool) (read : Reader L Shape Op) (write : Line Shape Op → L) : Type 0 where
   pub head : read Fresh (write (Head shape)) ≡ Head shape

@@ -129,8 +129,7 @@ impl<S: Spec> Checker<S> {
         }
     }
 
-    /// What the lines show, if a serial number is among them. The only error is that memory was
-    /// refused.
+    /// What the lines show, if a serial number is among them. The only error is out of memory.
     pub fn close<L: Ledger>(
         self,
         ticks: &mut Ticks<L>,

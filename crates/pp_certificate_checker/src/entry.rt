@@ -13,8 +13,7 @@ use pp_core::{Item, OutOfMemory, Ticks};
 use pp_kind::{Applied, Spec};
 use std::sync::ledger::Ledger;
 
-/// Adds an entry to the list if the object returns its result. The only error is that memory was
-/// refused.
+/// Adds an entry to the list if the object returns its result. The only error is out of memory.
 fn try_entry<S: Spec, L: Ledger>(
     state: &mut S::State,
     list: &mut Vec<Item<S::Op>>,

@@ -14,7 +14,7 @@ pub fn taken_law<S: Spec>()
     ensures { TakenLaw S.object }
 {}
 
-/// Behind lines that are taken, the verdict is that of the other lines.
+/// After lines that are taken, the verdict is that of the other lines.
 pub fn read_law<S: Spec, L>()
     ensures { ReadLaw S.object L }
 {}

@@ -4,9 +4,9 @@ use pp_core::Answer;
 /// Why a line is refused.
 #[derive(Clone, Copy, Debug, PartialEq, Eq)]
 pub enum Refusal {
-    /// It is not of the form of its place, or behind the last place.
+    /// It is not of the form of its place, or after the last place.
     NotCertificate,
-    /// The objects give the entry of this id this result, and not the recorded one.
+    /// The objects return this result for the entry of this id, and not the recorded one.
     Gives { entry: u32, answer: Answer },
     /// A position, or the serial number, is past the last entry.
     Position,

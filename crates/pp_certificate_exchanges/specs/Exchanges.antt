@@ -4,7 +4,7 @@ use Rattle.std.specs.Prelude.{◌++◌}
 use Rattle.pp_model.specs.Lists.{In, Before}
 use Rattle.pp_model.specs.Object.{Item, HasDistinctIds}
 
--- y is a permutation of x, whose entries are told apart by ids.
+-- y is a permutation of x, whose entries are distinct by ids.
 pub record Permutes {Op : Type 0} (x y : List (Item Op)) : Type 0 where
   pub distinct_x : HasDistinctIds x
   pub distinct_y : HasDistinctIds y

@@ -19,7 +19,7 @@ pub type Positions = Sequence<u32>;
 pub enum SwapFault {
     /// There are more inverted pairs than asked for, this many.
     TooMany { count: u64 },
-    /// Memory was refused.
+    /// Out of memory.
     OutOfMemory,
 }
 

@@ -16,7 +16,7 @@ pub fn exchange_law<S: Spec>()
 {}
 
 /// The shared log of a sound configuration may be put into commit order, with what is uncommitted
-/// behind.
+/// after.
 pub fn order_law<S: Spec>()
     ensures { (shape : S.Shape) → OrderLaw (rules_of S.object shape) }
 {}

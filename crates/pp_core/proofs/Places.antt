@@ -1,4 +1,4 @@
--- Where a name stands among distinct names, and that each object has one.
+-- The position of a name among distinct names, and that each object has one.
 use Rattle.std.proofs.Common.{◌≡◌, ℕ, zero, suc, false, List, [], ◌∷◌, ◌++◌, Option, None, Some}
 use Rattle.std.proofs.Common.{slice_get, position, refl, is_some, true≢false, subst}
 use Rattle.std.specs.List.{IsDistinct}
@@ -15,7 +15,7 @@ use Rattle.pp_core.specs.declared.call.Kind.{Kind}
 pub found_at_place : {K : Type 0} (es : List (List ℕ × K)) (i : ℕ) (e : List ℕ × K) → IsDistinct bytes_eq (keys_of es) → slice_get es i ≡ Some e → position (bytes_eq e.0) (keys_of es) ≡ Some i
 found_at_place es i e distinct at = index-first (bytes_eq e.0) es i (own_first bytes_eq nat_list_eq_equiv es i e.0 e.1 distinct at)
 
--- an object of this name stands at the place
+-- An object of this name is at the place.
 named_at : {K : Type 0} (es : List (List ℕ × K)) (i : ℕ) (name : List ℕ) → slice_get (keys_of es) i ≡ Some name
     → (e : List ℕ × K) × (slice_get es i ≡ Some e) × (e.0 ≡ name)
 named_at [] i name h = absurd (cc)

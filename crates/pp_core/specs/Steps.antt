@@ -1,4 +1,4 @@
--- Meaning: the steps of the machine, which a step of a run stands for, and their rules.
+-- Meaning: the steps of the machine, and their rules.
 use Rattle.std.specs.Prelude.{ℕ, List, Option, option_map}
 use Rattle.pp_core.specs.declared.step.Rule.{Rule}
 use Rattle.pp_core.specs.declared.step.Rule.TheVariants as rules

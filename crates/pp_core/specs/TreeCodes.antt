@@ -1,5 +1,5 @@
--- Proof machinery: trees as lists, so that models may hold trees: each part is written before the
--- part ahead of it, and a stack gives all back.
+-- Proof machinery: trees as lists, so that models may contain trees. Each part is written before
+-- the part ahead of it, and a stack reads all back.
 use Rattle.std.specs.Prelude.{◌≡◌, ◌⊎◌, ℕ, zero, suc, List, [], ◌∷◌, refl}
 use Rattle.std.specs.Coded.{Coded, code_by, coded⊎, coded_ℕ, coded_list}
 use Rattle.std.proofs.Common.{ap, ◌∙◌, inl, inr}

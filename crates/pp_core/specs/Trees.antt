@@ -1,4 +1,4 @@
--- Meaning: the plain data that a body stands for, and how large it is.
+-- Meaning: a body as plain data, and how large it is.
 use Rattle.std.specs.Prelude.{ℕ, ◌+◌, ◌≤◌, max, nat_le, ◌&&◌, Bool, List, [], ◌∷◌, map, Option}
 use Rattle.std.specs.Prelude.{None, Some}
 use Rattle.pp_core.specs.declared.body.Body.{Body, fold-Body}

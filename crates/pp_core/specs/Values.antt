@@ -6,7 +6,7 @@ use Rattle.std.specs.List.{list_any}
 use Rattle.indexmap.specs.IndexMap.{get, spare}
 use Rattle.pp_core.specs.declared.id_map.IdMap.{IdMap}
 
--- The value that stands at a position of the list, if there is one.
+-- The value that is at a position of the list, if there is one.
 abbrev pub near_value : {T : Type 0} → List (Option T) → ℕ → Option T
 near_value near at = option_flatten (slice_get near at)
 

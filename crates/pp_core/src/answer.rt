@@ -1,7 +1,7 @@
-//! Results of calls, and the want of memory.
+//! Results of calls, and running out of memory.
 use std::alloc::{AllocError, AllocFailed};
 
-/// Memory was refused.
+/// Out of memory.
 #[derive(Clone, Copy, Debug, PartialEq, Eq)]
 pub struct OutOfMemory;
 

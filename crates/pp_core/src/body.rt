@@ -114,14 +114,14 @@ impl Body {
     ghost use Rattle.std.specs.Prelude.{◌↔◌, IsTrue};
     ghost use Rattle.pp_core.specs.Trees.{IsWithin, is_within};
 
-    /// An equal body. The only error is that memory was refused.
+    /// An equal body. The only error is out of memory.
     pub fn copy(&self, alloc: Global) -> Result<Body, OutOfMemory>
         ensures { IfOk result (λ b. tree b ≡ tree self.now) }
     {
         copy(self, alloc)
     }
 
-    /// An equal body, or none where there is none. The only error is that memory was refused.
+    /// An equal body, or none if there is none. The only error is out of memory.
     pub fn copy_if_any(body: &Option<Body>, alloc: Global) -> Result<Option<Body>, OutOfMemory>
         ensures { IfOk result (λ b. option_map tree b ≡ option_map tree body.now) }
     {

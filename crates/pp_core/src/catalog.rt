@@ -54,7 +54,7 @@ impl Catalog {
         self.objects.len()
     }
 
-    /// Adds an object at the end, and answers false where its name is there already.
+    /// Adds an object at the end, and returns false if its name is there already.
     pub fn add(&mut self, name: Name, kind: Kind) -> Result<bool, OutOfMemory>
         requires { length self.old < MOST_OBJECTS }
         ensures added { IfOk result (λ added. added ≡ is_none (place_of name self.old)) }
@@ -89,7 +89,7 @@ impl Catalog {
         Some((*name, *kind))
     }
 
-    /// The kinds of the objects, in their order. The only error is that memory was refused.
+    /// The kinds of the objects, in their order. The only error is out of memory.
     pub fn kinds(&self, alloc: Global) -> Result<Kinds, OutOfMemory>
         ensures { IfOk result (λ kinds. kinds ≡ map (λ entry. entry.1) self.now) }
     {

@@ -13,9 +13,8 @@ const STEP: usize = 64;
 /// So many places the list may have for each value that was set.
 const PLACES_FOR_EACH: usize = 4;
 
-/// A value for each of some ids. Where ids are given one after another from a small number on they
-/// are near: their values stand in a list, each where its id says. The values of others stand in a
-/// hash table.
+/// A value for each of some ids. Ids that follow one another from a small number on are near: their
+/// values are in a list, each at its id. The values of others are in a hash table.
 #[derive(Drop)]
 pub struct IdMap<T: Copy> {
     near: Vec<Option<T>>,
@@ -29,7 +28,7 @@ fn is_near(at: usize, count: usize) -> bool {
     at / PLACES_FOR_EACH <= count.saturating_add(STEP)
 }
 
-/// The value that stands where the id says, if there is one.
+/// The value of the id in the list, if there is one.
 fn near_value<T: Copy>(near: &[Option<T>], at: usize) -> Option<T>
     ensures { result ≡ near_value near.now at }
 {
@@ -47,7 +46,7 @@ fn far_value<T: Copy>(far: &IndexMap<u32, T>, id: u32) -> Option<T>
     far.get(&id).copied()
 }
 
-/// Takes away the value at a position, if one stands there.
+/// Takes away the value at a position, if one is there.
 fn empty<T: Copy>(near: &mut [Option<T>], at: usize)
     ensures { (k : ℕ) → near_value near.new k ≡ cond (nat_eq at k) None (near_value near.old k) }
 {
@@ -78,7 +77,7 @@ impl<T: Copy> IdMap<T> {
         far_value(&self.far, id)
     }
 
-    /// Makes room for the value of an id. The only error is that memory was refused.
+    /// Makes room for the value of an id. The only error is out of memory.
     pub fn reserve(&mut self, id: u32) -> Result<(), OutOfMemory>
         ensures same { HasSameValues self.old self.new }
         ensures room { OnOk result (HasRoomFor id self.new) }

@@ -45,8 +45,8 @@ impl IdSet {
         self.marks.get(id).is_some()
     }
 
-    /// Adds an id that is not among them. The only error is that memory was refused, and they are
-    /// then as they were.
+    /// Adds an id that is not among them. The only error is out of memory, and they are then as
+    /// they were.
     pub fn insert(&mut self, id: u32) -> Result<(), OutOfMemory>
         requires { list_any (λ i. id == i) self.old ≡ false }
         ensures ok { OnOk result (self.new ≡ self.old ++ id ∷ []) }

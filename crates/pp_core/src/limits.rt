@@ -33,5 +33,5 @@ pub const LONGEST_NAME: usize = 24;
 /// The most exchanges of neighbours of a certificate.
 pub const MOST_SWAPS: u32 = 1_000_000;
 
-/// The most operations of all attempts together, where it is told what each of them saw.
+/// The most operations of all attempts together, if the command reports what each of them saw.
 pub const MOST_VIEWED: u32 = 2_000_000;

@@ -25,7 +25,7 @@ pub enum Member {
 }
 
 impl Member {
-    /// Its name, as it stands in a line.
+    /// Its name, as it is in a line.
     pub fn word(self) -> &'static str
         ensures { result.now ≡ member_word self }
     {

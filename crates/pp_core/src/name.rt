@@ -64,21 +64,21 @@ impl Hash for Name {
     }
 }
 
-/// Whether a byte may stand in a name.
+/// Whether a byte may be in a name.
 fn is_name_byte(b: u8) -> bool
     ensures { result ≡ is_name_byte b }
 {
     b.is_ascii_alphanumeric() || b == b'_' || b == b'.' || b == b'-'
 }
 
-/// Whether each byte may stand in a name.
+/// Whether each byte may be in a name.
 fn all_name_bytes(bytes: &[u8]) -> bool
     ensures { result ≡ list_all is_name_byte bytes.now }
 {
     bytes.iter().all(|b| is_name_byte(*b))
 }
 
-/// The bytes, and zeros behind them.
+/// The bytes, and zeros after them.
 fn padded(bytes: &[u8]) -> [u8; LONGEST_NAME]
     requires { length bytes.now ≤ LONGEST_NAME }
     ensures { result ≡ padded bytes.now }

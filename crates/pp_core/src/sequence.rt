@@ -64,7 +64,7 @@ impl<T> From<Vec<T>> for Sequence<T> {
 }
 
 impl<T: Drop> Sequence<T> {
-    /// Adds an item at the end. The only error is that memory was refused.
+    /// Adds an item at the end. The only error is out of memory.
     pub fn push(&mut self, item: T) -> Result<(), OutOfMemory>
         ensures ok { OnOk result (self.new ≡ self.old ++ item ∷ []) }
         ensures err { OnErr result (self.new ≡ self.old) }
@@ -75,7 +75,7 @@ impl<T: Drop> Sequence<T> {
 }
 
 impl<T: Copy> Sequence<T> {
-    /// The same items once more. The only error is that memory was refused.
+    /// The same items once more. The only error is out of memory.
     pub fn copy_of(items: &[T], alloc: Global) -> Result<Sequence<T>, OutOfMemory>
         ensures { IfOk result (λ copy. copy ≡ items.now) }
     {
@@ -92,7 +92,7 @@ impl Sequence<u8> {
         &self.items
     }
 
-    /// Adds bytes at the end. The only error is that memory was refused.
+    /// Adds bytes at the end. The only error is out of memory.
     pub fn append(&mut self, bytes: &[u8]) -> Result<(), OutOfMemory>
         ensures ok { OnOk result (self.new ≡ self.old ++ bytes.now) }
         ensures err { OnErr result (self.new ≡ self.old) }

@@ -53,7 +53,7 @@ pub enum Step<O> {
 }
 
 impl<O: Copy> Step<O> {
-    /// The same step. The only error is that memory was refused for its body.
+    /// The same step. The only error is out of memory for its body.
     pub fn copy(&self, alloc: Global) -> Result<Step<O>, OutOfMemory>
         ensures { IfOk result (λ copy. meaning copy ≡ meaning self.now) }
     {

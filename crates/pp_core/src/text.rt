@@ -36,7 +36,7 @@ impl Words {
         }
     }
 
-    /// Adds a word of these bytes at the end. The only error is that memory was refused.
+    /// Adds a word of these bytes at the end. The only error is out of memory.
     pub fn push(&mut self, word: &[u8]) -> Result<(), OutOfMemory>
         ensures ok { OnOk result (self.new ≡ self.old ++ word.now ∷ []) }
         ensures err { OnErr result (self.new ≡ self.old) }

@@ -37,7 +37,7 @@ use Rattle.pp_format_read.specs.Starts.{optional_start, AreReadable, IsReadableS
 use Rattle.pp_format_read.specs.Headers.{version_of, catalog_of, versioned_start, header_of}
 use Rattle.pp_format_read.proofs.Calls.{fits_there}
 
--- what holds behind a step of reading, by what holds of what the step read
+-- Q is true for the result of two readings in turn, if P is true for the first result, and Q for the second whenever P is true.
 pub behind : {A B : Type 0} (r : Result A RecordFault) (f : A → Result B RecordFault) (P : A → Type 0) (Q : B → Type 0) → IfOk r P
     → ((a : A) → P a → IfOk (f a) Q) → IfOk (r >>= f) Q
 behind (Ok a) f P Q p h = h a p

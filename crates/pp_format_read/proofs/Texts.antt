@@ -1,4 +1,4 @@
--- What `Name::read` answers, as `name_from`.
+-- What `Name::read` returns, as `name_from`.
 use Rattle.std.proofs.Common.{◌≡◌, ◌≤◌, ◌↔◌, ℕ, List, Option, true, false, Some, None, IsTrue}
 use Rattle.std.proofs.Common.{length, refl, sym, ◌∙◌, ap, cond, arith, rules}
 use Rattle.std.specs.Prelude.{IsSome, IfSome}

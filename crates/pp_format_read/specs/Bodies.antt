@@ -23,7 +23,7 @@ forms value =
     present (codes "seq") value + present (codes "alt") value + present (codes "star") value
     + present (codes "skip") value + present (codes "on") value
 
--- what the member `skip` gives: only true is a body
+-- what the member `skip` returns: only true is a body
 abbrev pub skip_in : Option Bool → Result Tree RecordFault
 skip_in (Some true) = Ok Skip
 skip_in (Some false) = Err BodyBad

@@ -10,7 +10,7 @@ abbrev pub ◌>>=◌ : {A B : Type 0} → Result A RecordFault → (A → Result
 (Ok x) >>= f = f x
 (Err e) >>= f = Err e
 
--- what a function returned, seen by view, is what reading gives, unless memory ran out
+-- what a function returned, seen by view, is the result of reading, unless memory ran out
 abbrev pub Gives : {X Y : Type 0} → (X → Y) → Result X RecordFault → Result Y RecordFault → Type 0
 Gives view (Ok x) read = read ≡ Ok (view x)
 Gives view (Err e) read = ¬ (e ≡ OutOfMemory) → read ≡ Err e

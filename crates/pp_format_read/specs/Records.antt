@@ -1,4 +1,4 @@
--- Meaning: the lines behind the header, as the style of the run writes them.
+-- Meaning: the lines after the header, as the style of the run writes them.
 use Rattle.std.specs.Prelude.{ℕ, List, IsSome, slice_get, Result, Ok}
 use Rattle.serde_json.specs.Data.{Data}
 use Rattle.pp_core.specs.Catalogs.{Objects}

@@ -116,7 +116,7 @@ fn versioned_start(
     }
 }
 
-/// Reads the first line of a run. Of several faults it answers the one that is tested first.
+/// Reads the first line of a run. Of several faults it returns the one that is tested first.
 #[tactic(auto, unfolding(crate::specs::Headers::header_of))]
 pub fn read_header(alloc: Global, line: &[u8]) -> Result<Header, RecordFault>
     ensures reads { Gives (λ h. h) result (header_of line.now) }

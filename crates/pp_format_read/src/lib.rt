@@ -1,4 +1,4 @@
-//! Reading the lines of a run: the header, and the records behind it.
+//! Reading the lines of a run: the header, and the records after it.
 #![tactic(auto)]
 
 mod body;

@@ -1,4 +1,4 @@
-//! The lines behind the header.
+//! The lines after the header.
 ghost use Rattle.std.specs.Prelude.{IfOk};
 ghost use Rattle.serde_json.specs.View.{view};
 ghost use Rattle.pp_records.specs.Expansions.{IsOfStyle};
@@ -44,7 +44,7 @@ fn record_named(
     }
 }
 
-/// Reads a line behind the header. Of several faults it answers the one that is tested first: the
+/// Reads a line after the header. Of several faults it returns the one that is tested first: the
 /// members are tested in the order in which the format lists them, and not in that of the line.
 #[tactic(auto, unfolding(crate::specs::Records::record_of))]
 pub fn read_record(

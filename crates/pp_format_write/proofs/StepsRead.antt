@@ -51,7 +51,7 @@ either true x y P p q = p
 either false x y P p q = q
 
 module _ (catalog : Objects) (value : Data) where
-  -- a record of a transaction, and what it gives
+  -- A record of a transaction, and what it returns.
   of_tx : (f : List ℕ → Result (Step Op) RecordFault) → ((tx : List ℕ) → IsName tx → IfOk (f tx) (IsStatable catalog)) → IfOk (name_of members.Tx value >>= f) (IsStatable catalog)
   of_tx f h = behind (name_of members.Tx value) f IsName (IsStatable catalog) (name_read members.Tx value) h
 

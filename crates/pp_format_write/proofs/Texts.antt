@@ -179,7 +179,7 @@ number_back (negative (pos n)) h = absurd h
 number_back (negative (negsuc n)) h = number_of-negative n (omega arith)
 number_back (float x) h = absurd h
 
--- the members behind others
+-- The members after others.
 abbrev behind : Members → Members → Members
 behind no_members ms = ms
 behind (member k d fs) ms = member k d (behind fs ms)
@@ -291,7 +291,7 @@ text_read d h few =
 pub value_back : (d : Data) → IsTidy IsNear d → depth d ≤ max_depth → value_of (compact_text d) ≡ Ok d
 value_back d h few = value_is (compact_text d) d (utf8 (compact_text d) (clean IsNear d h)) (text_read d h few)
 
--- ---- how long it is, with a comma behind each element and each member
+-- ---- how long it is, with a comma after each element and each member
 abbrev mutual
   -- The most bytes of the text of a tidy value with numbers within 10^18, with a comma after each element and each member.
   pub width : Data → ℕ

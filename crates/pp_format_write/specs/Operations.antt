@@ -42,7 +42,7 @@ word_of act = method_word (call_of act).method
 abbrev pub arity_in : Act → ℕ
 arity_in act = arity_of (kind_for act) (call_of act).method
 
--- the members of an operation with its id, and behind them those of its record
+-- the members of an operation with its id, and after them those of its record
 abbrev pub op_members : Objects → ℕ → Op → Members → Members
 op_members catalog id op others =
     member (codes "args") (call_value (arity_in op.act) (call_of op.act))

@@ -17,6 +17,6 @@ printed_header catalog (Some start) = header_bytes_2 catalog start.tx start.ops
 abbrev pub run_lines : Objects → Option Start → List (Step Op) → List (List ℕ)
 run_lines catalog start steps = printed_header catalog start ∷ map (step_bytes catalog) steps
 
--- the text of a run: its lines, each with a byte 10 behind it
+-- the text of a run: its lines, each with a byte 10 after it
 abbrev pub run_text : Objects → Option Start → List (Step Op) → List ℕ
 run_text catalog start steps = joined_lines (run_lines catalog start steps)

@@ -24,7 +24,7 @@ tx_value word tx = object (tx_members word tx)
 abbrev pub entry_value : List ℕ → List ℕ → ℕ → Data
 entry_value word tx id = object (member (codes "id") (number (unsigned id)) (tx_members word tx))
 
--- the body of a begin, if one was given, and behind it its other members
+-- the body of a begin, if one was given, and after it its other members
 abbrev pub with_body : Objects → Option Tree → Members → Members
 with_body catalog None others = others
 with_body catalog (Some body) others = member (codes "body") (body_value catalog body) others

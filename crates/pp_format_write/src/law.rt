@@ -63,8 +63,8 @@ pub fn length_law()
 
 /// If a run can be stated, its text is an input of which each line is examined: the line of its
 /// header, numbered 1, and the line of its step i, numbered i + 1. None of these lines is blank,
-/// and the input passes no usual limit and has less than 200,000,000 bytes. The text of a run
-/// with steps behind it is that of the run with their lines behind it.
+/// and the input passes no usual limit and has less than 200,000,000 bytes. The text of a run with
+/// steps after it is that of the run with their lines after it.
 pub fn run_text_law()
     ensures lines { (catalog : Objects) (start : Option Start) (steps : List (Step Op))
         → IsStatableRun catalog start steps

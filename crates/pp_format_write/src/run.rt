@@ -45,9 +45,8 @@ fn add_step(
     text.push(b'\n')
 }
 
-/// The text of a run of style rules over these objects of which no step is written yet, with this
-/// start if there is one: the line of its header with a byte 10 behind it. The only error is
-/// out of memory.
+/// The text of a run of style rules over these objects without any step yet, with this start if
+/// there is one: the line of its header with a byte 10 after it. The only error is out of memory.
 pub fn header_text(
     alloc: Global,
     catalog: &Catalog,
@@ -61,8 +60,8 @@ pub fn header_text(
     Ok(text)
 }
 
-/// Writes further steps behind the text of a run: a line for each, with a byte 10 behind it. The
-/// only error is out of memory, and the text is then of no more use.
+/// Writes further steps after the text of a run: a line for each, with a byte 10 after it. The only
+/// error is out of memory, and the text is then of no more use.
 pub fn add_steps(
     alloc: Global,
     catalog: &Catalog,

@@ -109,8 +109,8 @@ fn step_value(alloc: Global, catalog: &Catalog, step: &Step<Op>) -> Result<Value
 }
 
 /// The line of a step as a record of style rules, without a line end. It reads back as that step
-/// behind a header with these objects, if a record may have the step. The only error is
-/// out of memory.
+/// after a header with these objects, if a record may have the step. The only error is out of
+/// memory.
 #[tactic(auto, using(crate::proofs::Steps::no_float, crate::proofs::Steps::one_line))]
 pub fn step_line(alloc: Global, catalog: &Catalog, step: &Step<Op>) -> Result<Text, OutOfMemory>
     requires { IsWritable catalog.now (meaning step.now) }

@@ -20,7 +20,7 @@ lines_counted at front (b ∷ bs) =
           ] refl)
     ] refl
 
--- and each byte behind the last end
+-- The column counts each byte after the last line end.
 pub column_counted : (at : Reach) (front bytes : List ℕ) → length front ≤ at.column → length (rest_behind front (within_from at bytes)) ≤ (reach_from at bytes).column
 column_counted at front [] le = le
 column_counted at front (b ∷ bs) le =

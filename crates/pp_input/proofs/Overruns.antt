@@ -114,7 +114,7 @@ line_in false true c n fault h = sym (ap line_of (same_Some (TooManyLines n) fau
 line_in false false true n fault h = sym (ap line_of (same_Some (LineTooLong n) fault h))
 line_in false false false n fault h = absurd (cc)
 
--- the line of a fault is the one behind those that ended
+-- The line of a fault is the one after those that ended.
 pub line_is : (at : Reach) (bytes : List ℕ) (fault : LineFault) → overrun_from at bytes ≡ Some fault → line_of fault ≡ (reach_from at bytes).lines + 1
 line_is at [] fault h = absurd (cc)
 line_is at (x ∷ xs) fault h =
@@ -143,7 +143,7 @@ start_reach_all L bytes none = start_reach L bytes ∙ ap (reach_of L) (within_a
 pub within_more : (L : Limits) (bytes piece : List ℕ) → overrun L bytes ≡ None → within L (bytes ++ piece) ≡ bytes ++ within_from (reach_of L bytes) piece
 within_more L bytes piece none = within_on (start L) bytes piece (start_overrun L bytes ∙ none) ∙ ap (λ at. bytes ++ within_from at piece) (start_reach_all L bytes none)
 
--- a piece that is fed behind bytes that pass no limit
+-- A piece that is fed after bytes that pass no limit.
 pub overrun_more : (L : Limits) (bytes piece : List ℕ) → overrun L bytes ≡ None → overrun_from (reach_of L bytes) piece ≡ overrun L (bytes ++ piece)
 overrun_more L bytes piece none = overrun_is L bytes piece ∙ sym (overrun_on L [] bytes piece none)
 

@@ -4,7 +4,7 @@ use Rattle.std.specs.List.{list_all}
 use Rattle.pp_input.specs.declared.limits.Limits.{Limits}
 use Rattle.pp_input.specs.Lines.{without_return}
 
--- the lines, each with a byte 10 behind it
+-- the lines, each with a byte 10 after it
 abbrev pub joined_lines : List (List ℕ) → List ℕ
 joined_lines [] = []
 joined_lines (line ∷ lines) = line ++ 10 ∷ joined_lines lines

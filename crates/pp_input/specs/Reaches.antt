@@ -17,7 +17,7 @@ passed at byte =
     (if not (byte == 10) && nat_le at.limits.line_bytes at.column
     then Some (LineTooLong (at.lines + 1)) else None))
 
--- where the input reaches behind a byte
+-- the state of the input after a byte
 abbrev pub past : Reach → ℕ → Reach
 past at byte =
     if byte == 10

@@ -8,6 +8,6 @@ pub enum LineFault {
     TooManyLines { line: u32 },
     /// The input has more bytes than the limit allows.
     TooLong { line: u32 },
-    /// Memory was refused.
+    /// Out of memory.
     OutOfMemory,
 }

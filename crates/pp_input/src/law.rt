@@ -5,9 +5,9 @@ ghost use Rattle.pp_input.specs.Lines.{numbered_lines, numbered_from};
 ghost use Rattle.pp_input.specs.Overruns.{overrun, scanned_lines};
 ghost use Rattle.pp_input.specs.declared.limits.Limits.{Limits};
 
-/// Lines without a byte 10, and without a byte 13 at their end, each with a byte 10 behind it and
-/// joined, are split into these lines again, numbered from 1. If they keep to the limits they
-/// pass none, so these are the lines that are examined.
+/// Lines without a byte 10, and without a byte 13 at their end, joined with a byte 10 after each,
+/// are split into these lines again, numbered from 1. If they keep the limits, they exceed none, so
+/// these are the lines that are examined.
 #[tactic(auto, using(crate::proofs::Joined::split, crate::proofs::Joined::allowed, crate::proofs::Joined::scanned))]
 pub fn joined_law()
     ensures split { (lines : List (List ℕ)) → AreLines lines

@@ -78,7 +78,7 @@ impl MemorySink {
         &self.held[..self.sent]
     }
 
-    /// Counts a call, and answers whether it fails.
+    /// Counts a call, and returns whether it fails.
     fn fails(&mut self) -> bool
         ensures fails { IsTrue result ↔ WriteFails self.old }
         ensures failed { IsTrue result → self.new ≡ after_failed_write self.old }

@@ -8,7 +8,7 @@ use crate::fault::LineFault;
 use crate::limits::Limits;
 use bstr::ByteSlice;
 
-/// The limits of an input; and the bytes so far, the lines that they end, and the bytes behind the
+/// The limits of an input; and the bytes so far, the lines that they end, and the bytes after the
 /// last end.
 #[derive(Clone, Copy)]
 pub(crate) struct Reach {

@@ -10,7 +10,7 @@ ghost use Rattle.pp_input.specs.declared.sink.SinkFault.TheVariants.{Failed, Out
 pub enum SinkFault {
     /// The sink failed, and counts it.
     Failed,
-    /// Memory was refused, and the sink counts it.
+    /// Out of memory, and the sink counts it.
     OutOfMemory,
 }
 
@@ -31,7 +31,7 @@ pub trait Sink {
     /// How often it returned out of memory, up to the end of 64 bits.
     ghost refusals: { Self → ℕ };
 
-    /// Takes bytes from the front of a piece, and answers how many. None of a piece that is not
+    /// Takes bytes from the front of a piece, and returns how many. None of a piece that is not
     /// empty is a fault.
     fn write(&mut self, bytes: &[u8]) -> Result<usize, SinkFault>
         ensures bound { IfOk result (λ n. n ≤ length bytes.now) }

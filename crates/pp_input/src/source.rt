@@ -15,7 +15,7 @@ pub trait Source {
     /// How often it has failed, up to the end of 64 bits.
     ghost faults: { Self → ℕ };
 
-    /// Puts the next bytes at the front of `into`, and answers how many. None for an `into` that is
+    /// Puts the next bytes at the front of `into`, and returns how many. None for an `into` that is
     /// not empty is the end.
     fn read(&mut self, into: &mut [u8]) -> Result<usize, Failed>
         ensures bound { IfOk result (λ n. n ≤ length into.new) }

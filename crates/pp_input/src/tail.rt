@@ -1,4 +1,4 @@
-//! The bytes behind the last line end.
+//! The bytes after the last line end.
 ghost use Rattle.std.specs.Prelude.{◌≡◌, ◌++◌, ◌↔◌, [], IfOk, OnOk, IsTrue};
 ghost use Rattle.pp_input.specs.Lines.{without_return};
 
@@ -7,7 +7,7 @@ use std::alloc::Global;
 use std::marker::Model;
 use std::mem;
 
-/// The bytes behind the last line end. One byte 13 at their end is held back, so that the line can
+/// The bytes after the last line end. One byte 13 at their end is held back, so that the line can
 /// be handed out without it and without memory.
 #[derive(Drop)]
 pub(crate) struct Tail {

@@ -72,7 +72,7 @@ module _ {Shape State Op Undo : Type 0} (o : Object Shape State Op Undo) where
     ranged = ranged-append x (a ∷ []) h.ranged (r, tt);
   }
 
-  -- a log stays allowed with an operation behind it exactly where that one is legal at its end
+  -- A log stays allowed with an operation after it exactly if that one is legal at its end.
   pub legal_at_end : (s : State) (x : List Op) (a : Op) (seen : Shape × List Op)
       → (o.shape s, x) ≡ seen → IsLog o s x → IsTrue (o.fits seen.0 a)
       → (o.gives s a ≡ o.recorded a) ↔ IsAllowed o seen.0 (seen.1 ++ a ∷ [])
@@ -125,7 +125,7 @@ module _ {Shape State Op Undo : Type 0} (o : Object Shape State Op Undo) where
   allowed_is_state s [] keeps h k = h
   allowed_is_state s (a ∷ x) keeps h k = allowed_is_state (o.next s a) x keeps (keeps s a h k.0) k.1
 
-  -- where each legal operation keeps the shape, so does an allowed list
+  -- If each legal operation keeps the shape, so does an allowed list.
   pub keeps_shape : ((s : State) (a : Op) → IsLegal o s a → o.shape (o.next s a) ≡ o.shape s)
       → (s : State) (l : List Op) → AllowedFrom o s l → o.shape (state_from o s l) ≡ o.shape s
   keeps_shape keeps s [] h = refl
@@ -135,7 +135,7 @@ module _ {Shape State Op Undo : Type 0} (o : Object Shape State Op Undo) where
   abbrev pub MayTurn : State → Op → Op → Type 0
   MayTurn s a b = (l : List Op) → AllowedFrom o s (a ∷ b ∷ l) → AllowedFrom o s (b ∷ a ∷ l)
 
-  -- a pair swaps exactly where it may be turned in each state that is reached
+  -- A pair swaps exactly if it may be turned in each state that is reached.
   pub turned_there : (a b : Op) → Swaps o a b → (sh : Shape) (before : List Op)
       → IsAllowed o sh before → MayTurn (state_after o sh before) a b
   turned_there a b swaps sh before h l k =

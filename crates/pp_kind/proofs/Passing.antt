@@ -1,4 +1,4 @@
--- Proof machinery: an operation behind those that it lets pass.
+-- Proof machinery: an operation after those that may move past it.
 use Rattle.std.proofs.Common.{◌≡◌, List, [], ◌∷◌, ◌++◌, sym, ◌∙◌, ap, subst}
 use Rattle.std.proofs.Common.{append_assoc, append-nil}
 use Rattle.pp_kind.specs.Object.{Object, IsLawful, IsLegal, IsAllowed, LetsPass, Swaps, state_after}
@@ -6,13 +6,13 @@ use Rattle.pp_kind.proofs.Lists.{allowed-first, allowed-second, state-append}
 use Rattle.pp_kind.proofs.Places.{reached_is_state, tells_states}
 
 module _ {Shape State Op Undo : Type 0} (o : Object Shape State Op Undo) (laws : IsLawful o) where
-  -- the pair may be turned where it stands
+  -- The pair may be turned where it is.
   pub turned : (sh : Shape) (x y : List Op) (a b : Op) → Swaps o a b → IsAllowed o sh (x ++ a ∷ b ∷ y)
       → IsAllowed o sh ((x ++ b ∷ []) ++ a ∷ y)
   turned sh x y a b swaps h =
       subst (IsAllowed o sh) (sym (append_assoc x (b ∷ []) (a ∷ y))) ((swaps sh).always x y h)
 
-  -- an operation moves behind those that swap with it
+  -- An operation moves after those that swap with it.
   pub passed : (sh : Shape) (x y k : List Op) (a : Op) → LetsPass o a y
       → IsAllowed o sh (x ++ (a ∷ (y ++ k))) → IsAllowed o sh (x ++ (y ++ (a ∷ k)))
   passed sh x [] k a p h = h
@@ -41,7 +41,7 @@ module _ {Shape State Op Undo : Type 0} (o : Object Shape State Op Undo) (laws :
       ∙ (ap (state_after o sh) (sym (append_assoc x y (a ∷ [])))
       ∙ state-append o (o.start sh) (x ++ y) (a ∷ []))
 
-  -- a pair where it stands
+  -- a pair where it is
   pub record IsPair (s : State) (a b : Op) : Type 0 where
     pub is_state : o.upkeep.IsState s
     pub first : IsLegal o s a

@@ -62,7 +62,7 @@ module _ {Shape State Op Undo : Type 0} (o : Object Shape State Op Undo) (laws :
 module _ {Shape State Op Undo : Type 0} (o : Object Shape State Op Undo) (place_of : Op → ℕ)
     (SameAt : ℕ → State → State → Type 0) (laws : IsLawful o)
     (places : IsPlaced o place_of SameAt) where
-  -- an operation moves behind operations of other places
+  -- An operation moves after operations of other places.
   pub moved_back : (sh : Shape) (x y k : List Op) (a : Op) → AllElsewhere place_of (place_of a) y
       → IsAllowed o sh (x ++ (a ∷ (y ++ k))) → IsAllowed o sh (x ++ (y ++ (a ∷ k)))
   moved_back sh x [] k a e h = h
@@ -80,7 +80,7 @@ module _ {Shape State Op Undo : Type 0} (o : Object Shape State Op Undo) (place_
   stays_at p s (b ∷ y) e = places.joined p s (o.next s b) (state_from o (o.next s b) y)
       (places.next_elsewhere s b p e.0) (stays_at p (o.next s b) y e.1)
 
-  -- an operation may be seen as the last one, behind those of other places
+  -- An operation may be seen as the last one, after those of other places.
   turned_last : (sh : Shape) (x y : List Op) (a : Op) → AllElsewhere place_of (place_of a) y
       → IsAllowed o sh (x ++ a ∷ y) → IsAllowed o sh ((x ++ y) ++ a ∷ [])
   turned_last sh x y a e h =

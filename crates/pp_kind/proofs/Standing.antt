@@ -1,4 +1,4 @@
--- Proof machinery: what stands among samples, and what follows for all that they stand for.
+-- Proof machinery: what is among samples, and what follows for all that they represent.
 use Rattle.std.proofs.Common.{◌≡◌, ℕ, zero, suc, ◌<◌, false, List, [], ◌∷◌, ◌++◌, All, length}
 use Rattle.std.proofs.Common.{get_or, inl, inr, refl, sym, ap, subst, arith, Option, None, Some}
 use Rattle.pp_model.specs.Lists.{In}
@@ -18,7 +18,7 @@ of_each P [] x h there = elim there [ ]
 of_each P (y ∷ xs) x h (inl e) = subst P (sym e) (h 0 y (omega arith))
 of_each P (y ∷ xs) x h (inr there) = of_each P xs x (λ k d l. h (suc k) d (omega arith)) there
 
--- one more at the end, behind a first
+-- One more at the end, after a first.
 pub first_push : {A : Type 0} (first : Option A) (others more : List A) (x : A)
     → more ≡ others ++ x ∷ [] → first_and first more ≡ first_and first others ++ x ∷ []
 first_push None others more x e = e
@@ -35,7 +35,7 @@ all_of_both {A} P (Some y) others h rest = at
     at (suc k) d l = rest k d (omega arith)
 
 module _ {Shape State Op Undo : Type 0} (o : Object Shape State Op Undo) where
-  -- one more keeps those that stand for others, and stands for itself
+  -- One more keeps those that represent others, and represents itself.
   pub still_stood_for : (ops more : List Op) (op b : Op) → more ≡ ops ++ op ∷ []
       → IsStoodForBy o ops b → IsStoodForBy o more b
   still_stood_for ops more op b e s =
@@ -48,13 +48,13 @@ module _ {Shape State Op Undo : Type 0} (o : Object Shape State Op Undo) where
       subst (λ (l : List Op). IsStoodForBy o l op) (sym e)
       (op, in_right op ops (op ∷ []) (inl refl), ((λ c h. h), (λ c h. h)))
 
-  -- the first stands beside the others
+  -- If one of the others represents an operation, one of the first and the others does.
   pub stood_for_by_others : (first : Option Op) (others : List Op) (op : Op)
       → IsStoodForBy o others op → IsStoodForBy o (first_and first others) op
   stood_for_by_others None others op s = s
   stood_for_by_others (Some y) others op s = (s.0, inr s.1, s.2)
 
-  -- what each sample swaps with, all swap with that they stand for
+  -- If all samples swap with an operation, so does each operation that they represent.
   pub all_before : (samples : SampleList Op) (op b : Op) → samples.cut ≡ false
       → All (λ s. Swaps o s op) samples.ops → Covers o samples b → Swaps o b op
   all_before samples op b whole each covered =

@@ -1,4 +1,4 @@
--- Proof machinery: a kind of one shape, of which a test tells which pairs swap.
+-- Proof machinery: a kind of one shape, with a test for the pairs that swap.
 use Rattle.std.proofs.Common.{◌≡◌, Bool, true, false, IsTrue, List, ◌∷◌, ◌++◌, ◌↔◌, if◌then◌else◌}
 use Rattle.std.proofs.Common.{Some, None, refl, sym, ◌∙◌, ap, subst}
 use Rattle.pp_kind.specs.Object.{Object, IsAllowed, AllRanged, Swaps, SwapsNowhere, Refutes}
@@ -40,7 +40,7 @@ module _ {State Op Undo : Type 0} (o : Object (Unit {0}) State Op Undo) (test : 
   exact_by a b false e h = absurd
       (told.turned a b e ((h tt).always (lists a b).0 (lists a b).1 (told.allowed a b e)))
 
-  -- a pair swaps exactly where the test lets it
+  -- A pair swaps exactly if the test lets it.
   pub swaps_exact : (a b : Op) → (test a b ≡ true) ↔ Swaps o a b
   swaps_exact a b = (
     (λ t. commuting_swap o a b (told.commutes a b t)),

@@ -23,7 +23,7 @@ pub record Meets {Shape State Op Undo : Type 0} (o : Object Shape State Op Undo)
 
 module _ {Shape State Op Undo Gap : Type 0} (o : Object Shape State Op Undo)
     (Bears : Gap → State → Type 0) (Differ : Gap → State → State → Type 0) where
-  -- How the state behind an operation that kept this differs from the one before it.
+  -- How the state after an operation that kept this differs from the one before it.
   abbrev pub Leaves : Op → Undo → Left Gap → Type 0
   Leaves a u left.Same =
       (s : State) → o.upkeep.IsState s → IsLegal o s a → o.upkeep.kept s a ≡ u → o.next s a ≡ s
@@ -31,7 +31,7 @@ module _ {Shape State Op Undo Gap : Type 0} (o : Object Shape State Op Undo)
       (s : State) → o.upkeep.IsState s → IsLegal o s a → o.upkeep.kept s a ≡ u
       → Bears g (o.next s a) → Differ g (o.next s a) s
 
-  -- How two states that differ by a gap differ behind an operation that is legal in the first.
+  -- How two states that differ by a gap differ after an operation that is legal in the first.
   abbrev pub Crosses : Gap → Op → Crossed Gap Undo → Type 0
   Crosses g b (crossed.Same u) =
       (s : State) → o.upkeep.IsState s → IsLegal o s b

@@ -23,7 +23,8 @@ pub record Upkeep (State Op Undo : Type 0) : Type 1 where
   -- they have
   pub in_clique : Op → Bool
 
--- What a kind of object means: its states, what an operation gives in a state, and what it leaves.
+-- What a kind of object means: its states, what an operation returns in a state, and what it
+-- leaves.
 pub record Object (Shape State Op Undo : Type 0) : Type 1 where
   -- the empty state, before any operation
   pub start : Shape → State
@@ -37,7 +38,7 @@ pub record Object (Shape State Op Undo : Type 0) : Type 1 where
   pub call : Op → Call
   -- the result that it records
   pub recorded : Op → Answer
-  -- the result that the object gives
+  -- the result that the object returns
   pub gives : State → Op → Answer
   -- the state afterwards
   pub next : State → Op → State
@@ -46,7 +47,7 @@ pub record Object (Shape State Op Undo : Type 0) : Type 1 where
   pub upkeep : Upkeep State Op Undo
 
 module _ {Shape State Op Undo : Type 0} (o : Object Shape State Op Undo) where
-  -- The operation fits the state, and its recorded result is the one that the object gives there.
+  -- The operation fits the state, and its recorded result is the one that the object returns there.
   abbrev pub IsLegal : State → Op → Type 0
   IsLegal s op = IsTrue (o.fits (o.shape s) op) × (o.gives s op ≡ o.recorded op)
 
@@ -70,8 +71,8 @@ module _ {Shape State Op Undo : Type 0} (o : Object Shape State Op Undo) where
   abbrev pub rules_of : Shape → model.Object Op State
   rules_of shape = record { start = o.start shape; Legal = IsLegal; next = o.next; call = o.call }
 
-  -- In this shape b moves left over a: wherever a is followed by b, whatever stands before and
-  -- behind them, b may stand before a instead.
+  -- In this shape b moves left over a: wherever a is followed by b, b may come before a instead,
+  -- whatever is before and after the two.
   abbrev pub SwapsIn : Shape → Op → Op → Type 0
   SwapsIn shape a b = model.Swaps (rules_of shape) a b
 
@@ -93,7 +94,7 @@ module _ {Shape State Op Undo : Type 0} (o : Object Shape State Op Undo) where
   AllRanged [] = Unit {0}
   AllRanged (op ∷ ops) = IsTrue (o.ranged op) × AllRanged ops
 
-  -- Where a and then b are legal in this state, so are b and then a, and they leave the same state.
+  -- If a and then b are legal in this state, so are b and then a, and they leave the same state.
   abbrev pub CommutesAt : State → Op → Op → Type 0
   CommutesAt s a b =
       IsLegal s a → IsLegal (o.next s a) b
@@ -105,9 +106,9 @@ module _ {Shape State Op Undo : Type 0} (o : Object Shape State Op Undo) where
       (shape : Shape) (before : List Op) → IsAllowed shape before
       → CommutesAt (state_after shape before) a b
 
-  -- What is kept where a and then b take effect in this state, and where b and then a do. In turn:
-  -- of the one that comes first the same is kept, whichever it is, and so it is of the other. Else
-  -- the same is kept of each in both orders. Both are so where nothing is kept.
+  -- What is kept if a and then b take effect in this state, and if b and then a do. "In turn"
+  -- means: the one that comes first keeps the same, whichever it is, and so does the one that comes
+  -- second. Otherwise each keeps the same in both orders. Both are true if nothing is kept.
   abbrev pub KeptAsAt : Bool → State → Op → Op → Type 0
   KeptAsAt true s a b =
       (o.upkeep.kept s b ≡ o.upkeep.kept s a)
@@ -116,7 +117,7 @@ module _ {Shape State Op Undo : Type 0} (o : Object Shape State Op Undo) where
       (o.upkeep.kept s b ≡ o.upkeep.kept (o.next s a) b)
       × (o.upkeep.kept (o.next s b) a ≡ o.upkeep.kept s a)
 
-  -- So it is in every state in which a and b are legal, and b behind a.
+  -- The same for every state in which a and b are legal, and b after a.
   abbrev pub KeptAs : Bool → Op → Op → Type 0
   KeptAs in_turn a b =
       (s : State) → o.upkeep.IsState s → IsLegal s a → IsLegal s b → IsLegal (o.next s a) b
@@ -132,7 +133,7 @@ module _ {Shape State Op Undo : Type 0} (o : Object Shape State Op Undo) where
       → Swaps a b
 
   -- The lists show that b may not move left over a: they fit each shape that the pair fits, and are
-  -- ranged where the pair is.
+  -- ranged if the pair is.
   pub record Refutes (a b : Op) (before after : List Op) : Type 0 where
     pub allowed : (shape : Shape) → IsTrue (o.fits shape a) → IsTrue (o.fits shape b)
         → IsAllowed shape (before ++ (a ∷ b ∷ after))
@@ -162,9 +163,9 @@ module _ {Shape State Op Undo : Type 0} (o : Object Shape State Op Undo) where
   abbrev pub AllowsAllOf : State → State → Type 0
   AllowsAllOf s t = (k : List Op) → AllowedFrom s k → AllowedFrom t k
 
-  -- Where a stands before the operations y, its effect may be seen as the last one, and what was
-  -- kept when it was applied, which is what would be kept behind y, takes it back, as if it had not
-  -- been.
+  -- If a is before the operations y, its effect may be seen as the last one. The value that was
+  -- kept when it was applied is the value that would be kept after y, and it takes a back as if it
+  -- had not been applied.
   pub record IsUndoneBehind (shape : Shape) (x y : List Op) (a : Op) : Type 0 where
     pub allowed : IsAllowed shape ((x ++ y) ++ a ∷ [])
     pub left : state_after shape (x ++ a ∷ y) ≡ o.next (state_after shape (x ++ y)) a
@@ -186,13 +187,14 @@ module _ {Shape State Op Undo : Type 0} (o : Object Shape State Op Undo) where
     -- what is taken back was as if it had not been
     pub taken_back : (s : State) (op : Op) → o.upkeep.IsState s → IsLegal s op
         → o.upkeep.back (o.next s op) op (o.upkeep.kept s op) ≡ s
-    -- states of one shape are one where all that is allowed from the first is from the second
+    -- states of one shape are equal if all that is allowed from the first is allowed from the
+    -- second
     pub told_apart : (s t : State) → o.upkeep.IsState s → o.upkeep.IsState t
         → o.shape s ≡ o.shape t → AllowsAllOf s t → s ≡ t
     -- operations of one call that are legal in one state record one result
     pub one_answer : (s : State) (a b : Op) → o.call a ≡ o.call b → IsLegal s a → IsLegal s b
         → o.recorded a ≡ o.recorded b
-    -- an operation is ranged exactly where its arguments and its recorded result are
+    -- an operation is ranged exactly if its arguments and its recorded result are
     pub ranged_numbers : (op : Op)
         → o.ranged op ≡ (has_ranged_arguments (o.call op) && is_ranged_answer (o.recorded op))
     -- there are lists exactly for the pairs that do not swap, and they show it
@@ -211,7 +213,7 @@ AllElsewhere place_of p [] = Unit {0}
 AllElsewhere place_of p (b ∷ y) = (p ≡ place_of b → ⊥) × AllElsewhere place_of p y
 
 module _ {Shape State Op Undo : Type 0} (o : Object Shape State Op Undo) (place_of : Op → ℕ) where
-  -- An operation is taken back behind those of other places.
+  -- An operation is taken back after those of other places.
   abbrev pub UndoneBehindOthers : Type 0
   UndoneBehindOthers =
       (shape : Shape) (x y : List Op) (a : Op) → AllElsewhere place_of (place_of a) y

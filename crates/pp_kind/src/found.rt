@@ -15,7 +15,7 @@ pub fn answer_of(found: Option<i64>) -> Answer
     }
 }
 
-/// Whether what was found, if anything was, may stand in a record.
+/// Whether what was found, if anything was, may be in a record.
 pub fn is_ranged_found(found: Option<i64>) -> bool
     ensures { result ≡ is_ranged_found found }
 {

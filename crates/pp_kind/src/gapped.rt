@@ -6,7 +6,7 @@ use crate::spec::Spec;
 use pp_core::{OutOfMemory, Ticks};
 use std::sync::ledger::Ledger;
 
-/// How the state right behind an operation differs from the one before it.
+/// How the state right after an operation differs from the one before it.
 #[derive(Drop)]
 pub enum Left<G> {
     /// Not at all: the operation changes nothing.
@@ -15,12 +15,12 @@ pub enum Left<G> {
     Apart(G),
 }
 
-/// How two states that differ by a gap differ behind a further operation, legal in the first.
+/// How two states that differ by a gap differ after a further operation, legal in the first.
 #[derive(Drop)]
 pub enum Crossed<G, U> {
     /// Not at all. It is legal in the second too, and keeps this there.
     Same(U),
-    /// By this gap. Where the first state bears it, the operation is legal in the second too, and
+    /// By this gap. If the first state bears it, the operation is legal in the second too, and
     /// keeps the same there.
     Apart(G),
     /// That is not known: it may not be legal in the second.
@@ -34,8 +34,8 @@ pub trait Gapped: Spec {
     /// How the two differ.
     type Gap: Copy;
 
-    /// The state has what was asked of the other one by the operations that were crossed, as far as
-    /// the gap does not tell it.
+    /// Whether the state meets what the crossed operations required of the other state, as far as
+    /// the gap does not show it.
     ghost Bears: { Self.Gap → Self.State → Type 0 };
 
     /// The second state differs from the first as the gap says.
@@ -45,8 +45,8 @@ pub trait Gapped: Spec {
     fn gap_of(op: &Self::Op, undo: &Self::Undo) -> Left<Self::Gap>
         ensures { Leaves Self.object Bears Differ op.now undo.now result };
 
-    /// The gap behind a further operation. A kind may always answer that it is not known, which is
-    /// slow and as right: then all later operations are taken back, and applied again.
+    /// The gap after a further operation. A kind may always return that it is not known. This is
+    /// slow, but correct: then all later operations are taken back and applied again.
     fn cross(gap: &Self::Gap, op: &Self::Op) -> Crossed<Self::Gap, Self::Undo>
         ensures { Crosses Self.object Bears Differ gap.now op.now result };
 
@@ -54,7 +54,7 @@ pub trait Gapped: Spec {
     fn bears(gap: &Self::Gap, state: &Self::State) -> bool
         ensures { IsTrue result → Bears gap.now state.now };
 
-    /// Makes the first state the second. The only error is that memory was refused.
+    /// Makes the first state the second. The only error is out of memory.
     fn close<L: Ledger>(
         state: &mut Self::State,
         gap: &Self::Gap,

@@ -10,7 +10,7 @@ use std::hash::{Hash, Hasher};
 pub struct Part {
     /// The place of the object.
     pub object: u16,
-    /// The key, or 0 where the kind has none.
+    /// The key, or 0 if the kind has none.
     pub key: i64,
 }
 

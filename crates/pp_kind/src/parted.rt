@@ -33,11 +33,11 @@ pub trait Parted: Placed + Gapped {
     fn label(op: &Self::Op) -> Label
         ensures { result ≡ label_of op.now };
 
-    /// Which operations of a form are known to swap with this one behind them, by their numbers.
+    /// Which operations of a form are known to swap with this one after them, by their numbers.
     fn gate(form: usize, op: &Self::Op) -> Gate
         ensures { IsGate Self.object label_of form op.now result };
 
-    /// Whether the first may stand for the second: wherever it swaps, the second is known to swap.
+    /// Whether the first may represent the second: wherever it swaps, the second is known to swap.
     fn stands_for(a: &Self::Op, b: &Self::Op) -> bool
         ensures { IsTrue result → StandsFor Self.object a.now b.now };
 

@@ -9,7 +9,7 @@ pub const GREATEST_NUMBER: i64 = 1_000_000_000_000_000_000;
 /// has fewer: an operation a line, and the 256 of a start.
 pub const MOST_OPERATIONS: u64 = 4_294_967_552;
 
-/// Whether a number may stand in a record.
+/// Whether a number may be in a record.
 pub fn in_range(number: i64) -> bool
     ensures { result ≡ in_range number }
 {

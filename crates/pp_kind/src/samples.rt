@@ -1,4 +1,4 @@
-//! Operations that stand for many others.
+//! Operations that represent many others.
 ghost use Rattle.std.specs.Prelude.{◌≡◌, All, IsTrue, List, []};
 ghost use Rattle.pp_kind.specs.Object.{Swaps};
 ghost use Rattle.pp_kind.specs.Parts.{Covers, KeepsClique, IsStoodForBy, first_and, no_samples};
@@ -10,7 +10,7 @@ use std::marker::Model;
 /// How many samples are kept at most.
 pub const MOST_SAMPLES: usize = 64;
 
-/// Operations that stand for all that were added, and whether all of these are in the clique. Too
+/// Operations that represent all that were added, and whether all of these are in the clique. Too
 /// many different ones are not kept: then nothing but that is known. The first is kept apart, so
 /// that one alone takes no memory.
 #[derive(Drop)]
@@ -33,7 +33,7 @@ impl<S: Parted> Model for Samples<S> {
     } };
 }
 
-/// Whether one of the samples stands for the operation.
+/// Whether one of the samples represents the operation.
 fn some_stands_for<S: Parted>(samples: &[S::Op], op: &S::Op) -> bool
     ensures { IsTrue result → IsStoodForBy S.object samples.now op.now }
 {
@@ -45,7 +45,7 @@ fn some_stands_for<S: Parted>(samples: &[S::Op], op: &S::Op) -> bool
     false
 }
 
-/// Whether there is a first sample that stands for the operation.
+/// Whether there is a first sample that represents the operation.
 fn first_stands_for<S: Parted>(first: &Option<S::Op>, op: &S::Op) -> bool
     ensures { IsTrue result → (others : List S.Op) →
         IsStoodForBy S.object (first_and first.now others) op.now }
@@ -67,8 +67,7 @@ fn first_swaps_before<S: Parted>(first: &Option<S::Op>, op: &S::Op) -> bool
     }
 }
 
-/// Whether the first sample, if there is one, may stand behind the operation and change places
-/// with it.
+/// Whether the first sample, if there is one, may be after the operation and change places with it.
 fn first_swaps_behind<S: Parted>(first: &Option<S::Op>, op: &S::Op) -> bool
     ensures { IsTrue result → All (λ s. Swaps S.object op.now s) (first_and first.now []) }
 {
@@ -90,7 +89,7 @@ fn all_swap_before<S: Parted>(samples: &[S::Op], op: &S::Op) -> bool
     true
 }
 
-/// Whether each of the samples may stand behind the operation and change places with it.
+/// Whether each of the samples may be after the operation and change places with it.
 fn all_swap_behind<S: Parted>(samples: &[S::Op], op: &S::Op) -> bool
     ensures { IsTrue result → All (λ s. Swaps S.object op.now s) samples.now }
 {
@@ -126,15 +125,15 @@ impl<S: Parted> Samples<S> {
         S::in_clique(op) && self.all_in_clique
     }
 
-    /// Whether one of those that are kept stands for the operation.
+    /// Whether one of those that are kept represents the operation.
     fn has_one_for(&self, op: &S::Op) -> bool
         ensures { IsTrue result → IsStoodForBy S.object self.now.ops op.now }
     {
         first_stands_for::<S>(&self.first, op) || some_stands_for::<S>(&self.others, op)
     }
 
-    /// Keeps an operation. Where memory is refused, or too many are kept, nothing but the clique is
-    /// known of any from then on.
+    /// Keeps an operation. If memory runs out, or too many are kept, from then on only the clique
+    /// is known.
     fn keep(&mut self, op: &S::Op)
         requires { KeepsClique S.object self.old op.now }
         ensures keeps { (b : S.Op) → Covers S.object self.old b → Covers S.object self.new b }
@@ -149,8 +148,8 @@ impl<S: Parted> Samples<S> {
         }
     }
 
-    /// Adds an operation, which is kept where none that is kept stands for it. Where memory is
-    /// refused, or too many are kept, nothing but the clique is known of any from then on.
+    /// Adds an operation, which is kept if no kept one represents it. If memory runs out, or too
+    /// many are kept, from then on only the clique is known.
     pub fn add(&mut self, op: &S::Op)
         ensures keeps { (b : S.Op) → Covers S.object self.old b → Covers S.object self.new b }
         ensures covers { Covers S.object self.new op.now }
@@ -177,8 +176,8 @@ impl<S: Parted> Samples<S> {
         first_swaps_before::<S>(&self.first, op) && all_swap_before::<S>(&self.others, op)
     }
 
-    /// Whether each that was added may stand behind the operation and change places with it. False
-    /// says nothing.
+    /// Whether each that was added may be after the operation and change places with it. False says
+    /// nothing.
     pub fn all_behind(&self, op: &S::Op) -> bool
         ensures { IsTrue result →
             (b : S.Op) → Covers S.object self.now b → Swaps S.object op.now b }

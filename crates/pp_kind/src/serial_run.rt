@@ -39,8 +39,8 @@ fn replay<S: Spec, L: Ledger>(
     Ok(())
 }
 
-/// The state after the operations of these entries, from the empty state. The only error is that
-/// memory was refused.
+/// The state after the operations of these entries, from the empty state. The only error is out of
+/// memory.
 pub fn state_after<S: Spec, L: Ledger>(
     alloc: Global,
     shape: &S::Shape,
@@ -62,7 +62,7 @@ pub fn state_after<S: Spec, L: Ledger>(
 }
 
 /// The state after the operations of the committed transactions, in commit order. No list of them
-/// is made. The only error is that memory was refused.
+/// is made. The only error is out of memory.
 pub fn serial_state<S: Spec, L: Ledger>(
     alloc: Global,
     shape: &S::Shape,
@@ -86,7 +86,7 @@ pub fn serial_state<S: Spec, L: Ledger>(
 }
 
 /// The operations of the committed transactions, joined in commit order, and the state after them.
-/// The only error is that memory was refused.
+/// The only error is out of memory.
 pub fn serial<S: Spec, L: Ledger>(
     alloc: Global,
     shape: &S::Shape,

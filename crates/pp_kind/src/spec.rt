@@ -14,12 +14,12 @@ use std::sync::ledger::Ledger;
 pub enum Applied<U> {
     /// The operation took effect, and this takes it back.
     Done(U),
-    /// The object gives another result than the recorded one, and stays as it was.
+    /// The object returns another result than the recorded one, and stays as it was.
     Differs,
 }
 
-/// Operations round a pair that does not swap, which show it: in their midst the pair is allowed as
-/// it stands, and not the other way round.
+/// Operations before and after a pair that does not swap, which show it: between them the pair is
+/// allowed in this order, and not in the other.
 #[derive(Drop)]
 pub struct Context<O> {
     pub before: Ops<O>,
@@ -44,7 +44,7 @@ pub trait Spec: Drop {
     /// What the kind means.
     ghost object: { Object Self.Shape Self.State Self.Op Self.Undo };
 
-    /// The objects before any operation. The only error is that memory was refused.
+    /// The objects before any operation. The only error is out of memory.
     fn empty(alloc: Global, shape: &Self::Shape) -> Result<Self::State, OutOfMemory>
         ensures { IfOk result (λ s. s ≡ object.start shape.now) };
 
@@ -52,7 +52,7 @@ pub trait Spec: Drop {
     fn fits(shape: &Self::Shape, op: &Self::Op) -> bool
         ensures { result ≡ object.fits shape.now op.now };
 
-    /// Whether all its numbers, the recorded result included, may stand in a record.
+    /// Whether all its numbers, the recorded result included, may be in a record.
     fn ranged(op: &Self::Op) -> bool
         ensures { result ≡ object.ranged op.now };
 
@@ -60,17 +60,17 @@ pub trait Spec: Drop {
     fn recorded(op: &Self::Op) -> Answer
         ensures { result ≡ object.recorded op.now };
 
-    /// The result that the object gives for its call.
+    /// The result that the object returns for its call.
     fn gives(state: &Self::State, op: &Self::Op) -> Answer
         requires { IsTrue (object.fits (object.shape state.now) op.now) }
         ensures { result ≡ object.gives state.now op.now };
 
-    /// Whether the object gives the recorded result.
+    /// Whether the object returns the recorded result.
     fn legal(state: &Self::State, op: &Self::Op) -> bool
         requires { IsTrue (object.fits (object.shape state.now) op.now) }
         ensures { IsTrue result ↔ (object.gives state.now op.now ≡ object.recorded op.now) };
 
-    /// Lets the operation take effect where it is legal. The only error is that memory was refused.
+    /// Applies the operation if it is legal. The only error is out of memory.
     fn apply<L: Ledger>(
         state: &mut Self::State,
         op: &Self::Op,
@@ -82,7 +82,7 @@ pub trait Spec: Drop {
         ensures applied { Applies object state.old op.now result state.new }
         ensures cost { ticks.new ≡ ticks.old + 1 };
 
-    /// Takes the operation back that left this state. The only error is that memory was refused.
+    /// Takes the operation back that left this state. The only error is out of memory.
     fn undo<L: Ledger>(
         state: &mut Self::State,
         op: &Self::Op,
@@ -94,15 +94,15 @@ pub trait Spec: Drop {
         ensures err { OnErr result (state.new ≡ state.old) }
         ensures cost { ticks.new ≡ ticks.old + 1 };
 
-    /// Whether the second moves left over the first: in whatever midst the first is followed by the
-    /// second, the second may stand before the first instead.
+    /// Whether the second moves left over the first: wherever the first is followed by the second,
+    /// the second may come before the first instead.
     fn swaps(a: &Self::Op, b: &Self::Op) -> bool
         ensures swaps { IsTrue result → Swaps object a.now b.now }
         ensures only { Swaps object a.now b.now → IsTrue result }
         ensures never { result ≡ false → SwapsNowhere object a.now b.now };
 
-    /// Operations that show that the pair does not swap, or `None` where it does. The only error is
-    /// that memory was refused.
+    /// Operations that show that the pair does not swap, or `None` if it does. The only error is
+    /// out of memory.
     fn context(
         alloc: Global,
         a: &Self::Op,
@@ -159,7 +159,7 @@ pub fn other_places_swap<S: Placed>()
     ensures { (a b : S.Op) → S.place_of a ≢ S.place_of b → Swaps S.object a b }
 {}
 
-/// An operation may be seen as the last one behind those of other places, and is taken back there
+/// An operation may be seen as the last one after those of other places, and is taken back there
 /// with the undo value that was kept when it was applied, which is what would be kept there.
 pub fn undone_behind_others<S: Placed>()
     ensures { UndoneBehindOthers S.object S.place_of }

@@ -24,7 +24,7 @@ pub enum Condition {
     FirstStill,
     /// Where the second shifts nothing.
     SecondStill,
-    /// Where both lead to one number, and the first shifts nothing.
+    /// If both lead to one number, and the first shifts nothing.
     Settled,
     /// Where the two lead to different numbers.
     Apart,

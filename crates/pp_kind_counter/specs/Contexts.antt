@@ -33,7 +33,7 @@ pair_begins (Add by) (Add more) = pos 0
 pair_begins (Add by) (Get value) = value -ℤ by
 pair_begins (Add by) (FetchAdd more was) = was -ℤ by
 
--- what stands before and after such a pair
+-- what is before and after such a pair
 abbrev pub lists_round : CounterOp → CounterOp → List CounterOp × List CounterOp
 lists_round a b = (reach (pair_begins a b), [])
 

@@ -15,7 +15,7 @@ form_of (Add by) = 0
 form_of (Get value) = 1
 form_of (FetchAdd by was) = 2
 
--- the number that it finds and the one that it leaves, where it tells them, and what it adds
+-- the number that it finds and the one that it leaves, if its result shows them, and what it adds
 abbrev pub figures_of : CounterOp → Figures
 figures_of (Add by) = record { from = pos 0; to = pos 0; shift = by }
 figures_of (Get value) = record { from = value; to = value; shift = pos 0 }

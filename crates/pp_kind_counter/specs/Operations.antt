@@ -1,4 +1,4 @@
--- Meaning: the operations of a counter, and what they give and do.
+-- Meaning: the operations of a counter, and what they return and do.
 use Rattle.std.specs.Prelude.{ℤ, pos, ℕ, Bool, ◌&&◌}
 use Rattle.pp_core.specs.declared.answer.Answer.{Answer}
 use Rattle.pp_core.specs.declared.answer.Answer.TheVariants.{None as NoAnswer, Number}
@@ -30,7 +30,7 @@ recorded_by (Add by) = NoAnswer
 recorded_by (Get value) = Number value
 recorded_by (FetchAdd by was) = Number was
 
--- what a counter at this number gives
+-- what a counter at this number returns
 abbrev pub given_by : ℤ → CounterOp → Answer
 given_by n (Add by) = NoAnswer
 given_by n (Get value) = Number n
@@ -42,6 +42,6 @@ is_ranged (Add by) = in_range by
 is_ranged (Get value) = in_range value
 is_ranged (FetchAdd by was) = in_range by && in_range was
 
--- a counter stands alone, at the place 0
+-- the place of an operation, always 0: a counter is one place
 abbrev pub place_of : CounterOp → ℕ
 place_of op = 0

@@ -15,7 +15,7 @@ fn with_addition(mut ops: Ops<CounterOp>, by: i64) -> Result<Ops<CounterOp>, Out
     Ok(ops)
 }
 
-/// Additions that lead from zero to a number. The only error is that memory was refused.
+/// Additions that lead from zero to a number. The only error is out of memory.
 pub fn reach(alloc: Global, number: i128) -> Result<Ops<CounterOp>, OutOfMemory>
     requires low { negsuc 1_999_999_999_999_999_999 ≤ℤ number }
     requires high { number ≤ℤ pos 2_000_000_000_000_000_000 }

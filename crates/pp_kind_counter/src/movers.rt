@@ -86,7 +86,7 @@ pub fn may_swap(a: &CounterOp, b: &CounterOp) -> bool
     mover_table().holds(form(a), &figures(a), form(b), &figures(b))
 }
 
-/// Which operations of a form are known to swap with this one behind them, by their numbers.
+/// Which operations of a form are known to swap with this one after them, by their numbers.
 #[inline(always)]
 pub fn gate(first: usize, op: &CounterOp) -> Gate
     ensures { IsGateBefore gate_form_of number_of (Swaps counter) first op.now result }

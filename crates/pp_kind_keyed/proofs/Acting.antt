@@ -132,7 +132,7 @@ module _ {State Op Undo Cell : Type 0} (o : Object (Unit {0}) State Op Undo)
       w.stops first second (o.next (o.next s b) a)
       (left_here (o.next s b) a (k.key a) refl rest.1.0 ∙ ap (k.left a) here) rest.1.1
 
--- Where each operation tells what it found, the rule says which cells turn.
+-- If each operation shows what it found, the rule says which cells turn.
 module _ {State Op Undo Cell : Type 0} (o : Object (Unit {0}) State Op Undo)
     (k : ToldKeys State Op Cell) (alike_is : (c d : Cell) → (k.alike c d ≡ true) ↔ (c ≡ d)) where
   -- Two operations that swap by the rule turn each cell at their key.

@@ -1,4 +1,4 @@
--- Proof machinery: states that differ at a key, before and behind an operation.
+-- Proof machinery: states that differ at a key, before and after an operation.
 use Rattle.std.proofs.Common.{◌≡◌, ℤ, int_eq, Bool, true, false, cond, refl, sym, ◌∙◌, ap, subst}
 use Rattle.pp_kind.specs.Object.{Object, IsLegal}
 use Rattle.pp_kind.specs.Gaps.{StaysApart, Meets}
@@ -26,7 +26,7 @@ module _ {State Op Undo Cell : Type 0} (o : Object (Unit {0}) State Op Undo)
       by true e = ap (k.cell t) (same_key p q e) ∙ here
       by false e = others p e
 
-  -- the state before an operation has at its key what stood there
+  -- The state before an operation has at its key what was there.
   pub left_apart : (s : State) (a : Op) (c : Cell) → k.cell s (k.key a) ≡ c → IsLegal o s a
       → DiffersAt k (k.key a) c (o.next s a) s
   left_apart s a c e h =
@@ -43,7 +43,7 @@ module _ {State Op Undo Cell : Type 0} (o : Object (Unit {0}) State Op Undo)
   none_apart s t q c is it e d =
       one_apart s t s q c it is d (differ_by s s q c e (λ p f. refl))
 
-  -- and so an operation that leaves what stood there changes nothing
+  -- An operation that leaves what was at its key changes nothing.
   pub left_same : (s : State) (a : Op) → o.upkeep.IsState s
       → k.left a (k.cell s (k.key a)) ≡ k.cell s (k.key a) → IsLegal o s a → o.next s a ≡ s
   left_same s a is e h =
@@ -101,7 +101,8 @@ module _ {State Op Undo Cell : Type 0} (o : Object (Unit {0}) State Op Undo)
     kept = kept;
   }
 
-  -- and leaves one thing there, whatever stood there
+  -- An operation at the key of a gap meets the gap, if the other state has there what the operation finds,
+  -- and it leaves the same whatever is there.
   pub meets_there : (q : ℤ) (c : Cell) (b : Op) (u : Undo) (s t : State) → k.key b ≡ q
       → k.Finds b c → ((x : Cell) → k.left b x ≡ k.left b c)
       → (k.cell t (k.key b) ≡ c → o.upkeep.kept t b ≡ u) → o.upkeep.IsState s

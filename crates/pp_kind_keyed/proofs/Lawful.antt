@@ -28,7 +28,7 @@ module _ {State Op Undo Cell : Type 0} (o : Object (Unit {0}) State Op Undo)
   turned_stops a b e = let r = refused_here a b e in
       shown_stops o k acts a b (lists a b).0 (lists a b).1 r.0 (shown.shown a b r.0 r.1)
 
-  -- The table tells which pairs swap.
+  -- The table shows which pairs swap.
   pub table_tells : IsTold o (may_swap k lets) lists
   table_tells = record {
     refuting = shown.by_table;

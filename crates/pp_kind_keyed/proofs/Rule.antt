@@ -40,7 +40,7 @@ turned_cells true false l m x h = refl
 turned_cells false true l m x h = refl
 turned_cells false false l m x h = refl
 
--- A cell that is put where it stands, and one that is put over another.
+-- Putting the cell that is at a key there changes nothing.
 pub stands_at : {Cell : Type 0} (cell : ℤ → Cell) (k q : ℤ) (c : Cell) (here : Bool)
     → int_eq q k ≡ here → cell k ≡ c → cond here c (cell q) ≡ cell q
 stands_at cell k q c true e h = sym h ∙ ap cell (sym (same_key q k e))
@@ -54,7 +54,7 @@ covered false x y z = refl
 
 module _ {Cell : Type 0} (alike : Cell → Cell → Bool)
     (alike_is : (c d : Cell) → (alike c d ≡ true) ↔ (c ≡ d)) where
-  -- where the rule lets a pair swap, and its second finds what its first leaves, all are one
+  -- If the rule allows a pair to swap, and its second finds what its first leaves, all are one.
   pub lets_turned : (f l g m : Cell) → rule alike f l g m ≡ true → l ≡ g
       → (l ≡ m) × (m ≡ f) × (f ≡ g)
   lets_turned f l g m t h =
@@ -63,7 +63,7 @@ module _ {Cell : Type 0} (alike : Cell → Cell → Bool)
       let two = and_parts (alike m f) (alike f g) three.1 in
       ((alike_is l m).0 three.0, (alike_is m f).0 two.0, (alike_is f g).0 two.1)
 
-  -- where it does not, the second finds what the first leaves
+  -- If the rule does not allow a pair to swap, the second finds what the first leaves.
   pub refused_follows : (f l g m : Cell) → rule alike f l g m ≡ false → l ≡ g
   refused_follows f l g m t = (alike_is l g).0
       (refused (alike l g) (alike l m && (alike m f && alike f g)) t).0

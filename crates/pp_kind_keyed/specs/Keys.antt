@@ -7,19 +7,19 @@ use Rattle.pp_kind.specs.Object.{Object, IsLegal, AllowedFrom, IsAllowed, state_
 
 -- What a state keeps at its keys, and how an operation acts on the one key that it has.
 pub record Keys (State Op Cell : Type 0) : Type 1 where
-  -- what stands at a key
+  -- what is at a key
   pub cell : State → ℤ → Cell
   -- the key of an operation
   pub key : Op → ℤ
-  -- whether this may stand there before it, by its recorded result
+  -- whether this may be there before it, by its recorded result
   pub Finds : Op → Cell → Type 0
-  -- what stands there after it, by what stood there
+  -- what is there after it, by what was there
   pub left : Op → Cell → Cell
   -- the operation that finds this at a key, and leaves it
   pub read : ℤ → Cell → Op
 
 module _ {State Op Cell : Type 0} (k : Keys State Op Cell) where
-  -- Where a and then b find what they ask of this cell, so do b and then a, and leave the same.
+  -- If a and then b find what they ask of this cell, so do b and then a, and leave the same.
   abbrev pub TurnsAt : Op → Op → Cell → Type 0
   TurnsAt a b c =
       k.Finds a c → k.Finds b (k.left a c)
@@ -29,16 +29,16 @@ module _ {State Op Cell : Type 0} (k : Keys State Op Cell) where
   abbrev pub may_swap : (Op → Op → Bool) → Op → Op → Bool
   may_swap lets a b = if int_eq (k.key a) (k.key b) then lets a b else true
 
--- The same where the result of each operation tells what stood at its key, and so what stands there
--- after it.
+-- The same if the result of each operation shows what was at its key, and so what is there after
+-- it.
 pub record ToldKeys (State Op Cell : Type 0) : Type 0 where
   pub cell : State → ℤ → Cell
   -- whether two cells are one
   pub alike : Cell → Cell → Bool
   pub key : Op → ℤ
-  -- what stands there before it
+  -- what is there before it
   pub found : Op → Cell
-  -- what stands there after it
+  -- what is there after it
   pub left : Op → Cell
   pub read : ℤ → Cell → Op
 
@@ -77,12 +77,12 @@ module _ {State Op Undo Cell : Type 0} (o : Object (Unit {0}) State Op Undo)
     -- states with the same at each key are one
     pub one_state : (s t : State) → o.upkeep.IsState s → o.upkeep.IsState t
         → ((q : ℤ) → k.cell s q ≡ k.cell t q) → s ≡ t
-    -- an operation is legal exactly where it finds what stands at its key
+    -- an operation is legal exactly if it finds what is at its key
     pub legal : (s : State) (a : Op) → IsLegal o s a ↔ k.Finds a (k.cell s (k.key a))
     -- it leaves at its key what it says, and every other key as it was
     pub next_cell : (s : State) (a : Op) (q : ℤ) → IsLegal o s a
         → k.cell (o.next s a) q ≡ cond (int_eq q (k.key a)) (k.left a (k.cell s q)) (k.cell s q)
-    -- what is taken back stands at each key as it did
+    -- after an operation is taken back, each key has what it had
     pub back_cell : (s : State) (a : Op) (q : ℤ) → IsLegal o s a
         → k.cell (undone o s a) q ≡ k.cell s q
     -- every key can be read
@@ -96,11 +96,11 @@ module _ {State Op Undo Cell : Type 0} (o : Object (Unit {0}) State Op Undo)
         → o.upkeep.IsState (undone o s a)
     -- operations of one call are given one answer
     pub one_given : (s : State) (a b : Op) → o.call a ≡ o.call b → o.gives s a ≡ o.gives s b
-    -- an operation is ranged exactly where its arguments and its recorded result are
+    -- an operation is ranged exactly if its arguments and its recorded result are
     pub ranged_numbers : (a : Op)
         → o.ranged a ≡ (has_ranged_arguments (o.call a) && is_ranged_answer (o.recorded a))
 
-  -- Why a pair on one key does not swap: behind `before`, which is allowed, the pair and then
+  -- Why a pair on one key does not swap: after `before`, which is allowed, the pair and then
   -- `after` go on, and in the other order they stop.
   pub record Shows (a b : Op) (before after : List Op) : Type 0 where
     pub cell : Cell
@@ -113,8 +113,8 @@ module _ {State Op Undo Cell : Type 0} (o : Object (Unit {0}) State Op Undo)
     pub stops : k.Finds b cell → k.Finds a (k.left b cell) → (s : State)
         → k.cell s (k.key a) ≡ k.left a (k.left b cell) → AllowedFrom o s after → ⊥
 
-  -- Each pair on one key that is let to swap does, and for each other pair there are such
-  -- operations, ranged where the pair is.
+  -- Each pair on one key that the rule allows to swap does swap. For each other pair there are such
+  -- operations, and they are ranged if the pair is.
   pub record IsShown (lets : Op → Op → Bool) (lists : Op → Op → List Op × List Op) : Type 0 where
     pub by_table : (a b : Op)
         → o.refuting a b ≡ (if may_swap k lets a b then None else Some (lists a b))

@@ -43,8 +43,8 @@ impl Cells {
         self.entries.get(&key).copied()
     }
 
-    /// Puts a number at a key, in place of the one that stands there, which it answers. The only
-    /// error is that memory was refused.
+    /// Puts a number at a key, in place of the one that is there, which it returns. The only error
+    /// is out of memory.
     pub fn insert(&mut self, key: i64, number: i64) -> Result<Option<i64>, OutOfMemory>
         ensures was { IfOk result (λ was. was ≡ map.get self.old key) }
         ensures ok { OnOk result (self.new ≡ map.insert self.old key number) }
@@ -56,8 +56,8 @@ impl Cells {
         }
     }
 
-    /// Puts a number at a key where `was` is what stands there, and says whether it is. A key that
-    /// is there is looked up once. The only error is that memory was refused.
+    /// Puts a number at a key if `was` is what is there, and returns whether it is. A key that is
+    /// there is looked up once. The only error is out of memory.
     pub fn replace(&mut self, key: i64, was: Option<i64>, number: i64) -> Result<bool, OutOfMemory>
         ensures found { IfOk result (λ done. IsTrue done ↔ (map.get self.old key ≡ was)) }
         ensures yes { IfOk result (λ done.
@@ -79,7 +79,7 @@ impl Cells {
         Ok(true)
     }
 
-    /// Takes the number at a key out, where there is one, and answers it.
+    /// Takes the number at a key out, if there is one, and returns it.
     pub fn remove(&mut self, key: i64) -> Option<i64>
         ensures was { result ≡ map.get self.old key }
         ensures out { self.new ≡ map.remove self.old key }
@@ -87,7 +87,7 @@ impl Cells {
         self.entries.remove(&key)
     }
 
-    /// The keys with their numbers, in the keys' order. The only error is that memory was refused.
+    /// The keys with their numbers, in the keys' order. The only error is out of memory.
     pub fn pairs(&self, alloc: Global) -> Result<Sequence<(i64, i64)>, OutOfMemory>
         ensures { IfOk result (λ pairs. pairs ≡ map.entries self.now) }
     {

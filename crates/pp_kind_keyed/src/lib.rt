@@ -1,7 +1,7 @@
 //! What memories, sets and maps share: objects that keep something at each key.
 //!
-//! Such a kind says by the record `Keys` what stands at a key, and what each of its operations
-//! finds and leaves there. `IsKeyed` and `IsShown` are the facts that it proves of itself, and
+//! Such a kind says by the record `Keys` what is at a key, and what each of its operations finds
+//! and leaves there. `IsKeyed` and `IsShown` are the facts that it proves of itself, and
 //! `keyed_lawful` makes all its laws of them.
 #![tactic(auto)]
 

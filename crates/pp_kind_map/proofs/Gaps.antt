@@ -37,7 +37,7 @@ leaves a u = by (option_eq int_eq (found_by a) (left_by a)) refl
     by false e = λ s is h k bears.
         left_apart key_map (told_keys map_keys) map_is_keyed s a (found_by a) (found s a h) h
 
--- The gap behind an operation, by whether it is at the key.
+-- The gap after an operation, by whether it is at the key.
 pub crosses : (g : MapGap) (b : MapOp) → Crosses key_map Bears Differ g b (gap_behind g b)
 crosses g b = by (int_eq (key_of b) g.key) refl
   where

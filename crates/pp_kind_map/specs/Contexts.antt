@@ -10,11 +10,11 @@ abbrev pub put_first : ℤ → Option ℤ → List MapOp
 put_first key None = []
 put_first key (Some x) = Put key x None ∷ []
 
--- what stands before such a pair: what its first operation found is put there
+-- what is before such a pair: what its first operation found is put there
 abbrev pub before_pair : MapOp → List MapOp
 before_pair a = put_first (key_of a) (found_by a)
 
--- what stands before and after it
+-- what is before and after it
 abbrev pub lists_round : MapOp → MapOp → List MapOp × List MapOp
 lists_round a b = (before_pair a, [])
 

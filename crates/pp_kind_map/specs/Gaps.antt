@@ -22,7 +22,7 @@ Bears g s = Unit {0}
 abbrev pub Differ : MapGap → FinMap int_cmp ℤ → FinMap int_cmp ℤ → Type 0
 Differ g s t = DiffersAt (told_keys map_keys) g.key g.value s t
 
--- From here on proof machinery: what the calls answer.
+-- From here on proof machinery: what the calls return.
 
 -- The gap that an operation leaves: what it found, where it leaves something else.
 abbrev pub gap_left : MapOp → Left MapGap
@@ -30,7 +30,7 @@ gap_left a =
     if option_eq int_eq (found_by a) (left_by a) then left.Same
     else left.Apart (record { key = key_of a; value = found_by a })
 
--- Operations at other keys leave a gap as it is. One at its key tells what stood there, which is
+-- Operations at other keys leave a gap as it is. One at its key shows what was there, which is
 -- another thing in the other map.
 abbrev pub gap_behind : MapGap → MapOp → Crossed MapGap (Unit {0})
 gap_behind g b = if int_eq (key_of b) g.key then crossed.Unknown else crossed.Apart g

@@ -21,7 +21,7 @@ form_of (Put key value was) = form_by was 0 1
 form_of (Get key found) = form_by found 2 3
 form_of (Remove key was) = form_by was 4 5
 
--- a value as a number, which is 0 where there is none
+-- a value as a number, which is 0 if there is none
 abbrev pub figure_of : Option ℤ → ℤ
 figure_of None = pos 0
 figure_of (Some x) = x

@@ -6,8 +6,8 @@ use crate::op::MapOp;
 use pp_core::{Ops, OutOfMemory};
 use std::alloc::Global;
 
-/// What stands before a pair that does not swap: the value that its first operation found
-/// is put there. The only error is that memory was refused.
+/// What is before a pair that does not swap: the value that its first operation found is put there.
+/// The only error is out of memory.
 pub fn before_pair(alloc: Global, a: &MapOp) -> Result<Ops<MapOp>, OutOfMemory>
     ensures { IfOk result (λ ops. ops ≡ before_pair a.now) }
 {

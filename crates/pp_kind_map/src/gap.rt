@@ -31,7 +31,7 @@ fn gap_left(op: &MapOp) -> Left<MapGap>
     }
 }
 
-/// Operations at other keys leave a gap as it is. One at its key tells what stood there, which is
+/// Operations at other keys leave a gap as it is. One at its key shows what was there, which is
 /// another thing in the other map.
 #[inline(always)]
 fn gap_behind(gap: &MapGap, op: &MapOp) -> Crossed<MapGap, ()>

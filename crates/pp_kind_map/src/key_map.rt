@@ -17,8 +17,7 @@ use std::sync::ledger::Ledger;
 #[derive(Drop)]
 pub struct KeyMap;
 
-/// Makes this the value at a key, or leaves the key without one. The only error is that memory was
-/// refused.
+/// Makes this the value at a key, or leaves the key without one. The only error is out of memory.
 pub fn set_value(values: &mut Cells, key: i64, value: Option<i64>) -> Result<(), OutOfMemory>
     ensures ok { OnOk result (values.new ≡ with_value values.old key value) }
     ensures err { OnErr result (values.new ≡ values.old) }

@@ -76,7 +76,7 @@ impl MapOp {
         }
     }
 
-    /// Whether all its numbers may stand in a record.
+    /// Whether all its numbers may be in a record.
     pub fn ranged(&self) -> bool
         ensures { result ≡ is_ranged self.now }
     {

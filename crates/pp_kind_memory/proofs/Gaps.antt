@@ -34,7 +34,7 @@ leaves (Cas a e n true) u = λ s is h k bears.
 leaves (Cas a e n false) u = λ s is h k.
     left_same memory addresses memory_keyed s (Cas a e n false) is refl h
 
--- Behind an operation at its address, by whether the number is the one that is asked for.
+-- After an operation at its address, by whether the number is the one that is asked for.
 abbrev CrossesThere : ℤ → MemOp → Type 0
 CrossesThere c b =
     Crosses memory Bears Differ (record { at = address_of b; number = c }) b (gap_there c b)
@@ -79,7 +79,7 @@ crosses_there c (Write a v) = λ s is h. (
 crosses_there c (Cas a e n true) = crosses_done a e n c (int_eq e c) refl
 crosses_there c (Cas a e n false) = crosses_failed a e n c (int_eq e c) refl
 
--- The gap behind each operation.
+-- The gap after each operation.
 pub crosses : (g : MemGap) (b : MemOp) → Crosses memory Bears Differ g b (gap_behind g b)
 crosses g b = by (int_eq (address_of b) g.at) refl
   where

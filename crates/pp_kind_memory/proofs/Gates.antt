@@ -1,4 +1,4 @@
--- What the form that gates know tells of an operation.
+-- What the form in a gate shows about an operation.
 use Rattle.std.proofs.Common.{◌≡◌, ◌≢◌, ℕ, ℤ, pos, ◌+◌, ◌-ℤ◌, ◌<◌, ◌≤◌, Bool, true, false, int_eq}
 use Rattle.std.proofs.Common.{if◌then◌else◌, refl, sym, arith}
 use Rattle.std.proofs.lemmas.Bool.Decides.{Decides-int_eq}

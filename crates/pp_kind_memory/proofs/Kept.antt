@@ -87,7 +87,7 @@ address_cases : (x y : ℤ) (b : Bool) → int_eq x y ≡ b → (P : Type 0) →
 address_cases x y true e P f g = f (equal x y e)
 address_cases x y false e P f g = g (λ h. let k = key_is x y h in let c : true ≡ false = cc in cc)
 
--- Where not both write at one address, what each keeps is its own.
+-- If not both write at one address, what each keeps is its own.
 kept_alone : (a b : MemOp) → (address_of a ≡ address_of b → (is_write a && is_write b) ≡ false)
     → Swaps memory a b → KeptAs memory false a b
 kept_alone a b t h =
@@ -145,7 +145,7 @@ and_false false w e = refl
 false_and : (v w : Bool) → v ≡ false → (v && w) ≡ false
 false_and v w e = ap (λ (t : Bool). t && w) e
 
--- Either way, as what is kept of the second tells.
+-- Either way, as what is kept of the second shows.
 pub kept_told : (a b : MemOp) (at n : ℤ) (t : Bool) → t ≡ writes_at a at
     → MayKeep memory b (Covered at n) → Swaps memory a b → KeptAs memory t a b
 kept_told a b at n true e k h =

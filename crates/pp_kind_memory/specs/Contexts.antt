@@ -51,7 +51,7 @@ abbrev pub read_of : ℤ → Option ℤ → List MemOp
 read_of a None = []
 read_of a (Some v) = Read a v ∷ []
 
--- what stands before and after the pair
+-- what is before and after the pair
 abbrev pub lists_round : MemOp → MemOp → List MemOp × List MemOp
 lists_round a b =
     (write_of (address_of a) (number_before a b), read_of (address_of a) (number_after a b))

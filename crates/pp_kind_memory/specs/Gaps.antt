@@ -23,7 +23,7 @@ Bears g s = Unit {0}
 abbrev pub Differ : MemGap → FinMap int_cmp ℤ → FinMap int_cmp ℤ → Type 0
 Differ g s t = DiffersAt addresses g.at g.number s t
 
--- From here on proof machinery: what the calls answer.
+-- From here on proof machinery: what the calls return.
 
 -- The gap that an operation leaves which kept this: what it covered.
 abbrev pub gap_left : MemOp → Undo → Left MemGap
@@ -37,7 +37,7 @@ abbrev pub where_found : Bool → ℤ → ℤ → Crossed MemGap Undo
 where_found finds a c =
     if finds then crossed.Apart (record { at = a; number = c }) else crossed.Unknown
 
--- The gap behind an operation at the address of a gap with this number.
+-- The gap after an operation at the address of a gap with this number.
 abbrev pub gap_there : ℤ → MemOp → Crossed MemGap Undo
 gap_there c (Read a v) = where_found (int_eq v c) a c
 gap_there c (Write a v) = crossed.Same (Covered a c)

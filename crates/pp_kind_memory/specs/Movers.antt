@@ -18,8 +18,8 @@ form_of (Write a v) = 1
 form_of (Cas a e n true) = 2
 form_of (Cas a e n false) = 3
 
--- the number that it finds, where it tells, and the one that it leaves; of a compare-and-swap that
--- fails, the one that it does not find
+-- the number that it finds, if its result shows it, and the one that it leaves; for a failing
+-- compare-and-swap, a number that it does not find
 abbrev pub figures_of : MemOp → Figures
 figures_of (Read a v) = record { from = v; to = v; shift = pos 0 }
 figures_of (Write a v) = record { from = pos 0; to = v; shift = pos 0 }

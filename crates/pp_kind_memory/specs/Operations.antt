@@ -1,4 +1,4 @@
--- Meaning: the operations of a memory, and what they give and do.
+-- Meaning: the operations of a memory, and what they return and do.
 use Rattle.std.specs.Prelude.{◌≡◌, ◌≢◌, ℤ, pos, Bool, true, false, ◌&&◌, if◌then◌else◌}
 use Rattle.std.specs.Ordering.{int_eq, int_cmp}
 use Rattle.std.specs.FinMap.{FinMap}
@@ -20,26 +20,26 @@ address_of (Read a v) = a
 address_of (Write a v) = a
 address_of (Cas a e n done) = a
 
--- it writes whatever stands there
+-- it writes whatever is there
 abbrev pub is_write : MemOp → Bool
 is_write (Read a v) = false
 is_write (Write a v) = true
 is_write (Cas a e n done) = false
 
--- it writes at this address, whatever stands there
+-- it writes at this address, whatever is there
 abbrev pub writes_at : MemOp → ℤ → Bool
 writes_at (Read a v) address = false
 writes_at (Write a v) address = int_eq a address
 writes_at (Cas a e n done) address = false
 
--- whether this number may stand there before it, by its result
+-- whether this number may be there before it, by its result
 abbrev pub Finds : MemOp → ℤ → Type 0
 Finds (Read a v) c = c ≡ v
 Finds (Write a v) c = Unit {0}
 Finds (Cas a e n true) c = c ≡ e
 Finds (Cas a e n false) c = c ≢ e
 
--- the number that stands there after it, by the one that stood there
+-- the number that is there after it, by the one that was there
 abbrev pub left_by : MemOp → ℤ → ℤ
 left_by (Read a v) c = c
 left_by (Write a v) c = v
@@ -61,7 +61,7 @@ recorded_by (Read a v) = Number v
 recorded_by (Write a v) = NoAnswer
 recorded_by (Cas a e n done) = Truth done
 
--- what a memory gives: of a compare-and-swap, whether the number is the expected one
+-- what a memory returns: of a compare-and-swap, whether the number is the expected one
 abbrev pub given_by : FinMap int_cmp ℤ → MemOp → Answer
 given_by m (Read a v) = Number (value_at m a)
 given_by m (Write a v) = NoAnswer

@@ -3,7 +3,7 @@ use Rattle.std.specs.Prelude.{◌≢◌, ℤ, pos, if◌then◌else◌, Some, un
 use Rattle.std.specs.Ordering.{int_eq, int_cmp}
 use Rattle.std.specs.FinMap as map
 
--- the number at an address, which is 0 where none is kept
+-- the number at an address, which is 0 if none is kept
 abbrev pub value_at : map.FinMap int_cmp ℤ → ℤ → ℤ
 value_at m a = unwrap_or (map.get m a) (pos 0)
 

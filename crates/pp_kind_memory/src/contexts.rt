@@ -60,7 +60,7 @@ fn number_after(a: &MemOp, b: &MemOp) -> Option<i64>
     }
 }
 
-/// A write of a number, where there is one.
+/// A write of a number, if there is one.
 fn write_of(alloc: Global, at: i64, number: Option<i64>) -> Result<Ops<MemOp>, OutOfMemory>
     ensures { IfOk result (λ ops. ops ≡ write_of at number) }
 {
@@ -71,7 +71,7 @@ fn write_of(alloc: Global, at: i64, number: Option<i64>) -> Result<Ops<MemOp>, O
     Ok(ops)
 }
 
-/// A read of a number, where there is one.
+/// A read of a number, if there is one.
 fn read_of(alloc: Global, at: i64, number: Option<i64>) -> Result<Ops<MemOp>, OutOfMemory>
     ensures { IfOk result (λ ops. ops ≡ read_of at number) }
 {
@@ -82,7 +82,7 @@ fn read_of(alloc: Global, at: i64, number: Option<i64>) -> Result<Ops<MemOp>, Ou
     Ok(ops)
 }
 
-/// The operations round a pair that does not swap. The only error is that memory was refused.
+/// The operations round a pair that does not swap. The only error is out of memory.
 pub fn lists_round(alloc: Global, a: &MemOp, b: &MemOp) -> Result<Context<MemOp>, OutOfMemory>
     ensures { IfOk result (λ c. (c.before, c.after) ≡ lists_round a.now b.now) }
 {

@@ -53,7 +53,7 @@ fn where_found(finds: bool, at: i64, number: i64) -> Crossed<MemGap, Undo>
     }
 }
 
-/// The gap behind an operation at the address of a gap with this number.
+/// The gap after an operation at the address of a gap with this number.
 #[inline(always)]
 fn gap_there(number: i64, op: &MemOp) -> Crossed<MemGap, Undo>
     ensures { result ≡ gap_there number op.now }

@@ -19,9 +19,9 @@ use std::sync::ledger::Ledger;
 pub struct Mem;
 
 impl Mem {
-    /// Whether an operation and one that it lets pass keep in turn what takes them back, as what the
-    /// other one keeps tells: so do two writes at one address, and else each keeps the same in both
-    /// orders.
+    /// Whether an operation, and one that may move past it, exchange their undo values in the other
+    /// order. Two writes at one address do; all others keep the same in both orders. The undo value
+    /// of the other one decides this.
     #[inline(always)]
     pub fn keep_in_turn(a: &MemOp, kept: &Undo) -> bool
         ensures { (b : MemOp) → MayKeep memory b kept.now → Swaps memory a.now b

@@ -44,8 +44,8 @@ impl Memory {
         self.cells.get(at).unwrap_or(0)
     }
 
-    /// Writes a number at an address, and answers the one that it covers. The only error is that
-    /// memory was refused.
+    /// Writes a number at an address, and returns the one that it covers. The only error is out of
+    /// memory.
     pub fn write(&mut self, at: i64, value: i64) -> Result<i64, OutOfMemory>
         ensures was { IfOk result (λ was. was ≡ value_at self.old at) }
         ensures ok { OnOk result (self.new ≡ written self.old at value) }
@@ -60,7 +60,7 @@ impl Memory {
     }
 
     /// The addresses whose number is not 0, with their numbers, in ascending order. The only error
-    /// is that memory was refused.
+    /// is out of memory.
     pub fn pairs(&self, alloc: Global) -> Result<Sequence<(i64, i64)>, OutOfMemory>
         ensures { IfOk result (λ pairs. pairs ≡ map.entries self.now) }
     {

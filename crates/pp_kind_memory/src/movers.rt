@@ -116,7 +116,7 @@ pub fn may_swap(a: &MemOp, b: &MemOp) -> bool
     }
 }
 
-/// Which operations of a form are known to swap with this one behind them, by their numbers.
+/// Which operations of a form are known to swap with this one after them, by their numbers.
 #[inline(always)]
 pub fn gate(first: usize, op: &MemOp) -> Gate
     ensures { IsGateBefore gate_form_of number_of (Swaps memory) first op.now result }

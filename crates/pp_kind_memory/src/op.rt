@@ -19,7 +19,7 @@ pub enum MemOp {
         at: i64,
         value: i64,
     },
-    /// Writes a number at an address where the expected one stands, and tells whether it does.
+    /// Writes a number at an address if the expected one is there. The result is whether it does.
     Cas {
         at: i64,
         expected: i64,
@@ -41,7 +41,7 @@ impl MemOp {
         }
     }
 
-    /// Whether it writes whatever stands there.
+    /// Whether it writes whatever is there.
     #[inline]
     pub fn is_write(&self) -> bool
         ensures { result ≡ is_write self.now }
@@ -53,7 +53,7 @@ impl MemOp {
         }
     }
 
-    /// Whether it writes at this address, whatever stands there.
+    /// Whether it writes at this address, whatever is there.
     #[inline]
     pub fn writes_at(&self, address: i64) -> bool
         ensures { result ≡ writes_at self.now address }
@@ -78,7 +78,7 @@ impl MemOp {
         }
     }
 
-    /// Whether all its numbers may stand in a record.
+    /// Whether all its numbers may be in a record.
     pub fn ranged(&self) -> bool
         ensures { result ≡ is_ranged self.now }
     {

@@ -246,7 +246,7 @@ counted_here v x (suc n) values h =
     let here = copies_here v x (copies x n values) h in
     let k = counted_here v x n values h in omega arith
 
--- The value of the first entry stands in no later one.
+-- The value of the first entry is in no later one.
 none_later : (v : ℤ) (e : ℤ × ℕ) (es : List (ℤ × ℕ)) → int_cmp v e.0 ≡ Equal
     → IsStrictlySortedBy int_cmp (keys_of (e ∷ es)) → lookup (is_at (int_cmp v)) es ≡ None
 none_later v e es i s = lookup-none (is_at (int_cmp v)) es
@@ -287,7 +287,7 @@ counted_seen es seen v j f e i s h =
     ap (copies_of v) (sym e) ∙ ap (λ (x : ℤ). copies_of x (spread es)) (sym i) ∙ counted j es s
     ∙ ap one_more h
 
--- Copies that are added one after another, behind others.
+-- Copies that are added one after another, after others.
 one_copy_more : (x : ℤ) (n : ℕ) → copies x n [] ++ x ∷ [] ≡ copies x (suc n) []
 one_copy_more x zero = refl
 one_copy_more x (suc n) = ap (λ (l : List ℤ). x ∷ l) (one_copy_more x n)

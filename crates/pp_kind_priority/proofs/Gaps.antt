@@ -109,7 +109,7 @@ again : (v : ℤ) (values : List ℤ) → IsAscending (v ∷ values) → 1 ≤ c
 again v [] is h = absurd (omega arith)
 again v (x ∷ values) is h = ap Some (again_by v x values (int_eq v x) refl is h)
 
--- Where there is another one of the least, it is the least of the others.
+-- If there is another one of the least, it is the least of the others.
 least_again : (v : ℤ) (values : List ℤ) → IsAscending values → least_of values ≡ Some v
     → 1 ≤ copies_of v (without_least values) → least_of (without_least values) ≡ Some v
 least_again v [] is e h = cc
@@ -123,7 +123,7 @@ put_back v [] is e = cc
 put_back v (x ∷ values) is e = let f : x ≡ v = cc in
     let g = put_first x values is.0 in cc
 
--- Where the value that was put in is the least, the other queue has all but it.
+-- If the value that was put in is the least, the other queue has all but it.
 other_is : (v : ℤ) (values others : List ℤ) → least_of values ≡ Some v
     → values ≡ with_one v others → others ≡ without_least values
 other_is v [] others e d = cc
@@ -224,7 +224,7 @@ put_beside v w = λ s is h bears. (
   },
 )
 
--- The least stays the least with a value that is not less, and leaves it behind.
+-- The least value stays the least if one is added that is not less, and taking it leaves the added one.
 record StaysFirst (v w : ℤ) (s t : List ℤ) : Type 0 where
   pub least : least_of t ≡ Some w
   pub rest : without_least t ≡ with_one v (without_least s)

@@ -10,14 +10,14 @@ abbrev pub insertion_of : Option ℤ → List PrioOp
 insertion_of None = []
 insertion_of (Some x) = Insert x ∷ []
 
--- what stands before a pair: what the first finds, and where it takes it, what the second finds
+-- what is before a pair: what the first finds, and if the first takes it, what the second finds
 abbrev pub before_pair : PrioOp → PrioOp → List PrioOp
 before_pair (Insert value) b = []
 before_pair (Take None) b = []
 before_pair (Take (Some x)) b = Insert x ∷ insertion_of (found_by b)
 before_pair (Least value) b = insertion_of value
 
--- nothing stands after it
+-- nothing is after it
 abbrev pub lists_round : PrioOp → PrioOp → List PrioOp × List PrioOp
 lists_round a b = (before_pair a b, [])
 

@@ -1,4 +1,4 @@
--- Proof machinery: the list that values with the numbers of their further copies stand for.
+-- Proof machinery: the list that values with the numbers of their further copies represent.
 use Rattle.std.specs.Prelude.{ℕ, ℤ, zero, suc, List, [], ◌∷◌}
 
 -- so many copies of a value before others

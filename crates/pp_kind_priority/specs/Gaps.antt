@@ -19,6 +19,6 @@ abbrev pub Differ : PrioGap → List ℤ → List ℤ → Type 0
 Differ (Insert v copies) values others = values ≡ with_one v others
 Differ (Take v) values others = others ≡ with_one v values
 
--- the second gap is the first behind the operation
+-- the second gap is the first after the operation
 abbrev pub LeadsTo : PrioGap → PrioOp → PrioGap → Type 0
 LeadsTo g b h = Crosses prio Bears Differ g b (crossed.Apart h)

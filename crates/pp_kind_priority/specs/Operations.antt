@@ -1,4 +1,4 @@
--- Meaning: the operations of a priority queue, and what they give and do.
+-- Meaning: the operations of a priority queue, and what they return and do.
 use Rattle.std.specs.Prelude.{ℤ, pos, Bool, true, false, List, Option, Some, None}
 use Rattle.pp_core.specs.declared.answer.Answer.{Answer}
 use Rattle.pp_core.specs.declared.answer.Answer.TheVariants.{None as NoAnswer}
@@ -32,7 +32,7 @@ recorded_by (Insert value) = NoAnswer
 recorded_by (Take value) = answer_of value
 recorded_by (Least value) = answer_of value
 
--- what a priority queue of these values gives
+-- what a priority queue of these values returns
 abbrev pub given_by : List ℤ → PrioOp → Answer
 given_by values (Insert value) = NoAnswer
 given_by values (Take value) = answer_of (least_of values)

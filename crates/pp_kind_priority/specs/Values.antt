@@ -3,7 +3,7 @@ use Rattle.std.specs.Prelude.{ℕ, suc, ℤ, int_le, IsTrue, if◌then◌else◌
 use Rattle.std.specs.Prelude.{Option, Some, None}
 use Rattle.std.specs.Ordering.{int_eq}
 
--- the least value, which stands first, if there is one
+-- the least value, which is first, if there is one
 abbrev pub least_of : List ℤ → Option ℤ
 least_of [] = None
 least_of (x ∷ values) = Some x

@@ -51,7 +51,7 @@ impl Bag {
     pub fn has_copies(&self, value: i64, count: u64) -> bool
         ensures { IsTrue result ↔ (count ≤ copies_of value self.now) }
     {
-        // It stands here for its clause that each value is there once.
+        // It is here for its clause that each value is there once.
         let _ordered = self.further.len();
         match self.further.get(&value).copied() {
             Some(further) => count == 0 || count - 1 <= further,
@@ -59,7 +59,7 @@ impl Bag {
         }
     }
 
-    /// Adds a value. The only error is that memory was refused.
+    /// Adds a value. The only error is out of memory.
     pub fn add(&mut self, value: i64) -> Result<(), OutOfMemory>
         requires room { length self.old < 2 ^ 63 }
         ensures ok { OnOk result (self.new ≡ with_one value self.old) }
@@ -75,7 +75,7 @@ impl Bag {
         }
     }
 
-    /// Takes one of this value away, if there is one. The only error is that memory was refused.
+    /// Takes one of this value away, if there is one. The only error is out of memory.
     pub fn remove(&mut self, value: i64) -> Result<(), OutOfMemory>
         ensures ok { OnOk result (self.new ≡ without_one value self.old) }
         ensures err { OnErr result (self.new ≡ self.old) }
@@ -94,8 +94,7 @@ impl Bag {
         }
     }
 
-    /// Takes one of the least value away, if there is one. The only error is that memory was
-    /// refused.
+    /// Takes one of the least value away, if there is one. The only error is out of memory.
     pub fn remove_least(&mut self) -> Result<(), OutOfMemory>
         ensures ok { OnOk result (self.new ≡ without_least self.old) }
         ensures err { OnErr result (self.new ≡ self.old) }
@@ -106,7 +105,7 @@ impl Bag {
         }
     }
 
-    /// The values in ascending order, repeats kept. The only error is that memory was refused.
+    /// The values in ascending order, repeats kept. The only error is out of memory.
     pub fn values(&self, alloc: Global) -> Result<Sequence<i64>, OutOfMemory>
         ensures { IfOk result (λ values. values ≡ self.now) }
     {
@@ -119,7 +118,7 @@ impl Bag {
     }
 }
 
-/// Adds copies of a value behind others. The only error is that memory was refused.
+/// Adds copies of a value after others. The only error is out of memory.
 fn push_copies(values: &mut Sequence<i64>, value: i64, count: u64) -> Result<(), OutOfMemory>
     ensures { OnOk result (values.new ≡ values.old ++ copies value count []) }
 {

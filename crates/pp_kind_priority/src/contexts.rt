@@ -6,8 +6,8 @@ use crate::op::PrioOp;
 use pp_core::{Ops, OutOfMemory};
 use std::alloc::Global;
 
-/// Inserts what was found, if anything was, behind other operations. The only error is that memory
-/// was refused.
+/// Inserts what was found, if anything was, after other operations. The only error is out of
+/// memory.
 fn push_insertion(ops: &mut Ops<PrioOp>, found: Option<i64>) -> Result<(), OutOfMemory>
     ensures { OnOk result (ops.new ≡ ops.old ++ insertion_of found) }
 {
@@ -17,8 +17,7 @@ fn push_insertion(ops: &mut Ops<PrioOp>, found: Option<i64>) -> Result<(), OutOf
     Ok(())
 }
 
-/// What stands before a pair that does not swap; nothing stands after it. The only error is that
-/// memory was refused.
+/// What is before a pair that does not swap; nothing is after it. The only error is out of memory.
 pub fn before_pair(alloc: Global, a: &PrioOp, b: &PrioOp) -> Result<Ops<PrioOp>, OutOfMemory>
     ensures { IfOk result (λ ops. ops ≡ before_pair a.now b.now) }
 {

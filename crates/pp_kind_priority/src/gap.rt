@@ -12,15 +12,15 @@ use std::sync::ledger::Ledger;
 /// How a queue differs from the one without an operation that put a value in or took one.
 #[derive(Clone, Copy, Debug, PartialEq, Eq)]
 pub enum PrioGap {
-    /// The other queue lacks one of this value. Where the first has so many copies of it, the other
+    /// The other queue lacks one of this value. If the first has so many copies of it, the other
     /// one has found all that the first has found since.
     Insert { value: i64, copies: u64 },
     /// The other queue still has one of this value.
     Take { value: i64 },
 }
 
-/// How many copies of a value that was put in are wanted behind an operation more, where so many
-/// are wanted before it. `None` where that is not known.
+/// How many copies of an added value are required after one more operation, if this many are
+/// required before it. `None` if that is not known.
 #[inline(always)]
 fn wanted_behind(value: i64, copies: u64, op: &PrioOp) -> Option<u64>
     ensures { IfSome result (λ more.

@@ -8,7 +8,7 @@ use pp_kind::{answer_of, in_range, is_ranged_found};
 /// An operation on a priority queue, with its recorded result.
 #[derive(Clone, Copy, Debug, PartialEq, Eq)]
 pub enum PrioOp {
-    /// Adds a value, also where it is there.
+    /// Adds a value, also if it is there.
     Insert { value: i64 },
     /// Takes one of the least value, or finds that there is none.
     Take { value: Option<i64> },
@@ -17,7 +17,7 @@ pub enum PrioOp {
 }
 
 impl PrioOp {
-    /// Whether all its numbers may stand in a record.
+    /// Whether all its numbers may be in a record.
     pub fn ranged(&self) -> bool
         ensures { result ≡ is_ranged self.now }
     {

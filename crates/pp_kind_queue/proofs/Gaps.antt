@@ -20,7 +20,7 @@ none_less : (items : List ℤ) (n m : ℕ) → n ≤ m + 1 → 1 ≤ m → m ≤
 none_less [] n m h k l = omega arith
 none_less (x ∷ items) n m h k l = omega arith
 
--- The item that left both stood before the one that lacks.
+-- The item that left both queues was before the one that is missing.
 front_left : (v w : ℤ) (m : ℕ) (s t front back : List ℤ) → front_of s ≡ Some w
     → length back + 1 ≤ length (behind_front s) → s ≡ front ++ v ∷ back → t ≡ front ++ back
     → StaysApart fifo (Differ (gap.Enq v (length back) m)) (Deq (Some w)) s t
@@ -52,7 +52,7 @@ carried v u r n b c after e f h =
     subst (λ (x : QueueOp). Crosses fifo Bears Differ (gap.Enq u r n) x after) f
     (subst (λ (x : ℤ). Crosses fifo Bears Differ (gap.Enq x r n) b after) e h)
 
--- Without the item that lacks, which has so many behind it, it is the other queue.
+-- Without the missing item, which has this many after it, it is the other queue.
 taken_out : (v : ℤ) (front back : List ℤ)
     → remove (front ++ v ∷ back) (length front) ≡ front ++ back
 taken_out v [] back = refl

@@ -21,7 +21,7 @@ after_pair (Enq x) (Deq value) = []
 after_pair (Deq found) (Enq value) = []
 after_pair (Deq found) (Deq other) = []
 
--- what stands before and after such a pair
+-- what is before and after such a pair
 abbrev pub lists_round : QueueOp → QueueOp → List QueueOp × List QueueOp
 lists_round a b = (before_pair a b, after_pair a b)
 

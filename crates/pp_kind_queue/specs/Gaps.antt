@@ -8,7 +8,7 @@ abbrev pub Bears : QueueGap → List ℤ → Type 0
 Bears (gap.Enq v behind least) items = least ≤ length items
 Bears (gap.Deq v) items = Unit {0}
 
--- The other queue lacks an item that has so many behind it, or has one more in front.
+-- The other queue lacks an item that has so many after it, or has one more in front.
 abbrev pub Differ : QueueGap → List ℤ → List ℤ → Type 0
 Differ (gap.Enq v behind least) items others =
     (front : List ℤ) × (back : List ℤ) × (items ≡ front ++ v ∷ back) × (others ≡ front ++ back)

@@ -1,4 +1,4 @@
--- Meaning: the operations of a queue, and what they give and do.
+-- Meaning: the operations of a queue, and what they return and do.
 use Rattle.std.specs.Prelude.{ℤ, pos, ◌-◌, Bool, List, [], ◌∷◌, ◌++◌, length, take, Option, Some}
 use Rattle.std.specs.Prelude.{None}
 use Rattle.pp_core.specs.declared.answer.Answer.{Answer}
@@ -36,7 +36,7 @@ abbrev pub recorded_by : QueueOp → Answer
 recorded_by (Enq value) = NoAnswer
 recorded_by (Deq value) = answer_of value
 
--- what a queue of these items gives
+-- what a queue of these items returns
 abbrev pub given_by : List ℤ → QueueOp → Answer
 given_by items (Enq value) = NoAnswer
 given_by items (Deq value) = answer_of (front_of items)

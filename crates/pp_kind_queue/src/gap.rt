@@ -16,14 +16,15 @@ use std::sync::ledger::Ledger;
 /// How a queue differs from the one that would be there without one of its operations.
 #[derive(Clone, Copy, Debug, PartialEq, Eq)]
 pub enum QueueGap {
-    /// The other lacks this item, which has so many behind it. Where there are at least so many
+    /// The other queue lacks this item, which has this many after it. If there are at least as many
     /// items, no operation so far took it.
     Enq { value: i64, behind: u64, least: u64 },
     /// The other has this item more, in front.
     Deq { value: i64 },
 }
 
-/// The gap behind one more item, where the other queue lacks one: of equal neighbours the last.
+/// The gap after one more item, if the other queue lacks one. Among equal neighbours it is the last
+/// one.
 #[inline(always)]
 fn lacking_behind_enq(value: i64, behind: u64, least: u64, added: i64) -> Crossed<QueueGap, ()>
     ensures { Crosses fifo Bears Differ (gap.Enq value behind least) (Enq added) result }
@@ -48,7 +49,7 @@ fn lacking_behind_enq(value: i64, behind: u64, least: u64, added: i64) -> Crosse
     })
 }
 
-/// The gap behind one item less, where the other queue lacks one that is not the one which left.
+/// The gap after one item left, if the other queue lacks another one.
 #[inline(always)]
 fn lacking_behind_deq(value: i64, behind: u64, least: u64, taken: i64) -> Crossed<QueueGap, ()>
     ensures { Crosses fifo Bears Differ (gap.Enq value behind least) (Deq (Some taken)) result }
@@ -63,7 +64,7 @@ fn lacking_behind_deq(value: i64, behind: u64, least: u64, taken: i64) -> Crosse
     })
 }
 
-/// The gap behind an operation more, where the other queue lacks an item.
+/// The gap after one more operation, if the other queue lacks an item.
 #[inline(always)]
 fn lacking_behind(value: i64, behind: u64, least: u64, op: &QueueOp) -> Crossed<QueueGap, ()>
     ensures { Crosses fifo Bears Differ (gap.Enq value behind least) op.now result }
@@ -75,7 +76,7 @@ fn lacking_behind(value: i64, behind: u64, least: u64, op: &QueueOp) -> Crossed<
     }
 }
 
-/// The gap behind an operation more, where the other queue has an item more in front.
+/// The gap after one more operation, if the other queue has one more item at the front.
 #[inline(always)]
 fn in_front_behind(value: i64, op: &QueueOp) -> Crossed<QueueGap, ()>
     ensures { Crosses fifo Bears Differ (gap.Deq value) op.now result }

@@ -54,7 +54,7 @@ impl Queue {
         self.items.front().copied()
     }
 
-    /// Adds an item at the back. The only error is that memory was refused.
+    /// Adds an item at the back. The only error is out of memory.
     pub fn add_back(&mut self, value: i64) -> Result<(), OutOfMemory>
         ensures ok { OnOk result (self.new ≡ self.old ++ value ∷ []) }
         ensures err { OnErr result (self.new ≡ self.old) }
@@ -63,7 +63,7 @@ impl Queue {
         Ok(())
     }
 
-    /// Adds an item at the front. The only error is that memory was refused.
+    /// Adds an item at the front. The only error is out of memory.
     pub fn add_front(&mut self, value: i64) -> Result<(), OutOfMemory>
         ensures ok { OnOk result (self.new ≡ value ∷ self.old) }
         ensures err { OnErr result (self.new ≡ self.old) }

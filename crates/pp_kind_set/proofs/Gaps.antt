@@ -37,7 +37,7 @@ leaves a u = by (same_bit (bit_before a) (bit_after a)) refl
     by false e = λ s is h k bears.
         left_apart key_set (told_keys bits) set_keyed s a (bit_before a) (found s a h) h
 
--- The gap behind an operation, by whether it is at the key.
+-- The gap after an operation, by whether it is at the key.
 pub crosses : (g : SetGap) (b : SetOp) → Crosses key_set Bears Differ g b (gap_behind g b)
 crosses g b = by (int_eq (key_of b) g.key) refl
   where

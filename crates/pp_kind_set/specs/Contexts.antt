@@ -11,7 +11,7 @@ abbrev pub reach : ℤ → Bool → List SetOp
 reach k true = Add k true ∷ []
 reach k false = []
 
--- what stands before and after a pair on one key that does not swap
+-- what is before and after a pair on one key that does not swap
 abbrev pub lists_round : SetOp → SetOp → List SetOp × List SetOp
 lists_round a b = (reach (key_of a) (bit_before a), [])
 

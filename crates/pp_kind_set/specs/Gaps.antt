@@ -21,7 +21,7 @@ Bears g s = Unit {0}
 abbrev pub Differ : SetGap → FinSet int_cmp → FinSet int_cmp → Type 0
 Differ g s t = DiffersAt (told_keys bits) g.key g.present s t
 
--- From here on proof machinery: what the calls answer.
+-- From here on proof machinery: what the calls return.
 
 -- The gap that an operation leaves: what it found, where it leaves something else.
 abbrev pub gap_left : SetOp → Left SetGap
@@ -29,7 +29,7 @@ gap_left a =
     if same_bit (bit_before a) (bit_after a) then left.Same
     else left.Apart (record { key = key_of a; present = bit_before a })
 
--- Operations at other keys leave a gap as it is. One at its key tells what stood there, which is
+-- Operations at other keys leave a gap as it is. One at its key shows what was there, which is
 -- another thing in the other set.
 abbrev pub gap_behind : SetGap → SetOp → Crossed SetGap (Unit {0})
 gap_behind g b = if int_eq (key_of b) g.key then crossed.Unknown else crossed.Apart g

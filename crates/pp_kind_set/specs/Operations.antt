@@ -1,4 +1,4 @@
--- Meaning: the operations of a set, and what they give and do.
+-- Meaning: the operations of a set, and what they return and do.
 use Rattle.std.specs.Prelude.{ℤ, pos, Bool, true, false, not}
 use Rattle.std.specs.Ordering.{int_cmp}
 use Rattle.std.specs.FinSet.{FinSet}
@@ -44,7 +44,7 @@ recorded_by (Add k changed) = Truth changed
 recorded_by (Remove k changed) = Truth changed
 recorded_by (Contains k present) = Truth present
 
--- what a set gives: whether it changes, or whether the key is in
+-- what a set returns: whether it changes, or whether the key is in
 abbrev pub given_by : FinSet int_cmp → SetOp → Answer
 given_by s (Add k changed) = Truth (not (contains s k))
 given_by s (Remove k changed) = Truth (contains s k)

@@ -6,8 +6,8 @@ use crate::op::SetOp;
 use pp_core::{Ops, OutOfMemory};
 use std::alloc::Global;
 
-/// Operations that lead a key from the empty set to being in or not. The only error is that memory
-/// was refused.
+/// Operations that lead a key from the empty set to being in or not. The only error is out of
+/// memory.
 pub fn reach(alloc: Global, key: i64, present: bool) -> Result<Ops<SetOp>, OutOfMemory>
     ensures { IfOk result (λ ops. ops ≡ reach key present) }
 {

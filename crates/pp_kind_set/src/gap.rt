@@ -31,7 +31,7 @@ fn gap_left(op: &SetOp) -> Left<SetGap>
     }
 }
 
-/// Operations at other keys leave a gap as it is. One at its key tells what stood there, which is
+/// Operations at other keys leave a gap as it is. One at its key shows what was there, which is
 /// another thing in the other set.
 #[inline(always)]
 fn gap_behind(gap: &SetGap, op: &SetOp) -> Crossed<SetGap, ()>

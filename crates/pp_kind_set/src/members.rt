@@ -45,7 +45,7 @@ impl Members {
         self.keys.contains(&key)
     }
 
-    /// Puts a key in. The only error is that memory was refused.
+    /// Puts a key in. The only error is out of memory.
     pub fn insert(&mut self, key: i64) -> Result<(), OutOfMemory>
         ensures ok { OnOk result (self.new ≡ insert self.old key) }
         ensures err { OnErr result (self.new ≡ self.old) }
@@ -56,13 +56,13 @@ impl Members {
         }
     }
 
-    /// Takes a key out, where it is in.
+    /// Takes a key out, if it is in.
     pub fn remove(&mut self, key: i64)
         ensures { self.new ≡ remove self.old key }
     {
         self.keys.remove(&key);
     }
-    /// The keys, ascending. The only error is that memory was refused.
+    /// The keys, ascending. The only error is out of memory.
     pub fn keys(&self, alloc: Global) -> Result<Sequence<i64>, OutOfMemory>
         ensures { IfOk result (λ keys. keys ≡ members self.now) }
     {

@@ -59,7 +59,7 @@ pub fn may_swap(a: &SetOp, b: &SetOp) -> bool
     }
 }
 
-/// Which operations of a form are known to swap with this one behind them: all or none, since no
+/// Which operations of a form are known to swap with this one after them: all or none, since no
 /// number matters.
 #[inline(always)]
 pub fn gate(first: usize, op: &SetOp) -> Gate

@@ -9,9 +9,9 @@ use pp_kind::in_range;
 /// An operation on a set, with its recorded result.
 #[derive(Clone, Copy, Debug, PartialEq, Eq)]
 pub enum SetOp {
-    /// Puts a key in, which changes the set where it was not in.
+    /// Puts a key in, which changes the set if it was not in.
     Add { key: i64, changed: bool },
-    /// Takes a key out, which changes the set where it was in.
+    /// Takes a key out, which changes the set if it was in.
     Remove { key: i64, changed: bool },
     /// Asks whether a key is in.
     Contains { key: i64, present: bool },
@@ -54,7 +54,7 @@ impl SetOp {
         }
     }
 
-    /// Whether all its numbers may stand in a record.
+    /// Whether all its numbers may be in a record.
     pub fn ranged(&self) -> bool
         ensures { result ≡ is_ranged self.now }
     {

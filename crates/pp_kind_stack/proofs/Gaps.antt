@@ -51,7 +51,7 @@ on_top v w d s t h = (
   omega (arith, length-append h.1 (w ∷ []), h.4),
 )
 
--- Where some are above the item, both have one top, and lack the same without it.
+-- If some are above the item, both have one top, and lack the same without it.
 record SharesTop (v : ℤ) (d : ℕ) (s t : List ℤ) : Type 0 where
   pub top : top_of s ≡ top_of t
   pub rest : Lacks v d (without_top s) (without_top t)
@@ -77,7 +77,7 @@ shares_top v d s t h =
       );
     }
 
--- Where the item stands at the top, the other one is the rest.
+-- If the item is at the top, the other one is the rest.
 top_lacks : (v : ℤ) (s : List ℤ) → top_of s ≡ Some v → Lacks v 0 s (without_top s)
 top_lacks v s h = (without_top s, [], sym (top_there s v h), sym (append-nil (without_top s)), refl)
 
@@ -134,7 +134,7 @@ bears_before v d e (Pop (Some w)) s (inr h) k b = (
 )
 bears_before v d e (Pop None) s h k b = absurd h
 
--- The item of the first that the second lacks, behind an operation.
+-- The item of the first that the second lacks, after an operation.
 push_differs : (v : ℤ) (d e : ℕ) (op : StackOp) (s t : List ℤ) → IsAboveBehind v d op e
     → Tells op s → Bears (gap.Push v e) (stack.next s op) → Differ (gap.Push v d) s t
     → StaysApart stack (Differ (gap.Push v e)) op s t
@@ -164,7 +164,7 @@ push_differs v d e (Pop (Some w)) s t (inr h) k b f =
     }
 push_differs v d e (Pop None) s t h k b f = absurd h
 
--- The item that the second has more, behind an operation.
+-- The item that the second has more, after an operation.
 pop_differs : (v : ℤ) (d e : ℕ) (op : StackOp) (s t : List ℤ) → IsAboveBehind v d op e
     → Tells op s → Differ (gap.Pop v d) s t → StaysApart stack (Differ (gap.Pop v e)) op s t
 pop_differs v d e (Push w) s t h k f = record {

@@ -21,7 +21,7 @@ after_pair (Push x) (Pop value) = []
 after_pair (Pop found) (Push value) = []
 after_pair (Pop found) (Pop other) = []
 
--- what stands before and after such a pair
+-- what is before and after such a pair
 abbrev pub lists_round : StackOp → StackOp → List StackOp × List StackOp
 lists_round a b = (before_pair a b, after_pair a b)
 

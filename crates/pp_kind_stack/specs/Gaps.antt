@@ -22,8 +22,8 @@ abbrev pub Differ : StackGap → List ℤ → List ℤ → Type 0
 Differ (gap.Push v above) items others = Lacks v above items others
 Differ (gap.Pop v above) items others = Lacks v above others items
 
--- Above an item are so many, and so many behind an operation. Where none is, an item that equals it
--- may leave, and the next one then stands for it.
+-- How many items are above an item before and after an operation. If none is, an equal item may
+-- leave, and the next one then takes its part.
 abbrev pub IsAboveBehind : ℤ → ℕ → StackOp → ℕ → Type 0
 IsAboveBehind v above (Push w) after = after ≡ above + 1
 IsAboveBehind v above (Pop (Some w)) after =

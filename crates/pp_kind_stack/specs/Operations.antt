@@ -1,4 +1,4 @@
--- Meaning: the operations of a stack, and what they give and do.
+-- Meaning: the operations of a stack, and what they return and do.
 use Rattle.std.specs.Prelude.{ℤ, pos, ◌-◌, Bool, List, [], ◌∷◌, ◌++◌, length, take, slice_get}
 use Rattle.std.specs.Prelude.{Option, Some, None}
 use Rattle.pp_core.specs.declared.answer.Answer.{Answer}
@@ -31,7 +31,7 @@ abbrev pub recorded_by : StackOp → Answer
 recorded_by (Push value) = NoAnswer
 recorded_by (Pop value) = answer_of value
 
--- what a stack of these items gives
+-- what a stack of these items returns
 abbrev pub given_by : List ℤ → StackOp → Answer
 given_by items (Push value) = NoAnswer
 given_by items (Pop value) = answer_of (top_of items)

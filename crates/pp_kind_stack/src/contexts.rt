@@ -6,7 +6,7 @@ use crate::op::StackOp;
 use pp_core::{Ops, OutOfMemory};
 use std::alloc::Global;
 
-/// What stands before a pair that does not swap. The only error is that memory was refused.
+/// What is before a pair that does not swap. The only error is out of memory.
 pub fn before_pair(alloc: Global, a: &StackOp, b: &StackOp) -> Result<Ops<StackOp>, OutOfMemory>
     ensures { IfOk result (λ ops. ops ≡ before_pair a.now b.now) }
 {
@@ -20,7 +20,7 @@ pub fn before_pair(alloc: Global, a: &StackOp, b: &StackOp) -> Result<Ops<StackO
     Ok(ops)
 }
 
-/// What stands after it. The only error is that memory was refused.
+/// What is after it. The only error is out of memory.
 pub fn after_pair(alloc: Global, a: &StackOp, b: &StackOp) -> Result<Ops<StackOp>, OutOfMemory>
     ensures { IfOk result (λ ops. ops ≡ after_pair a.now b.now) }
 {

@@ -13,14 +13,14 @@ use std::sync::ledger::Ledger;
 /// How a stack differs from the one that would be there without one of its operations.
 #[derive(Clone, Copy, Debug, PartialEq, Eq)]
 pub enum StackGap {
-    /// The other lacks this item, which has so many above it.
+    /// The other stack lacks this item, which has this many above it.
     Push { value: i64, above: u64 },
     /// The other has this item more, with so many above it.
     Pop { value: i64, above: u64 },
 }
 
-/// How many stand above an item behind an operation more. None where it takes different items from
-/// the two stacks, or the number is too large.
+/// How many are above an item after one more operation. `None` if it takes different items from the
+/// two stacks, or the number is too large.
 #[inline(always)]
 fn above_behind(value: i64, above: u64, op: &StackOp) -> Option<u64>
     ensures { IfSome result (IsAboveBehind value above op.now) }

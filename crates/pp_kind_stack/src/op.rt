@@ -15,7 +15,7 @@ pub enum StackOp {
 }
 
 impl StackOp {
-    /// Whether all its numbers may stand in a record.
+    /// Whether all its numbers may be in a record.
     pub fn ranged(&self) -> bool
         ensures { result ≡ is_ranged self.now }
     {

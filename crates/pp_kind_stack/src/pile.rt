@@ -55,7 +55,7 @@ impl Pile {
         self.items.last().copied()
     }
 
-    /// Adds an item at the top. The only error is that memory was refused.
+    /// Adds an item at the top. The only error is out of memory.
     pub fn push(&mut self, value: i64) -> Result<(), OutOfMemory>
         ensures ok { OnOk result (self.new ≡ self.old ++ value ∷ []) }
         ensures err { OnErr result (self.new ≡ self.old) }
@@ -79,8 +79,8 @@ impl Pile {
         let _item = self.items.remove(i);
     }
 
-    /// Puts an item in at a place, from 0 at the bottom, below those that stood from there on. The
-    /// only error is that memory was refused.
+    /// Inserts an item at a position, from 0 at the bottom, below those that were there. The only
+    /// error is out of memory.
     pub fn insert_at(&mut self, i: usize, value: i64) -> Result<(), OutOfMemory>
         requires { i ≤ length self.old }
         ensures ok { OnOk result (self.new ≡ insert self.old i value) }

@@ -6,11 +6,11 @@ use std::alloc::Global;
 use std::process::Abort;
 use std::test::Fail;
 
-/// Two operations on one object, the first in front of the second.
+/// Two operations on one object, the first before the second.
 pub struct Pair {
     pub first: Op,
     pub second: Op,
-    /// What stands before and after them where they do not swap, or nothing where they do.
+    /// What is before and after them if they do not swap, or nothing if they do.
     pub context: Option<(&'static [Op], &'static [Op])>,
 }
 

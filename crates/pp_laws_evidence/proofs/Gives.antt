@@ -1,4 +1,4 @@
--- What an object gives after a log is what it gives after the view of the summary.
+-- What an object returns after a log is what it returns after the view of the summary.
 use Rattle.std.specs.Prelude.{◌≡◌, ℕ, List, [], ◌∷◌, ◌++◌, cond, Bool, Some}
 use Rattle.std.proofs.Common.{sym, ap, subst, ◌∙◌}
 use Rattle.std.proofs.lemmas.Bool.{eq-eqb}

@@ -70,7 +70,7 @@ abbrev unfinished_of : {Op : Type 0} → Place Op → Unfinished Op
 unfinished_of d = unfinished_at d.tx d.seen
 
 module _ {Op State : Type 0} (O : Object Op State) where
-  -- each element of what is built gives its recorded results
+  -- Each element of the order that is built returns its recorded results.
   built_legal : (A : List (Attempt Op)) → Allowed O (serial A) → (N : List (Place Op))
       → ((c : Place Op) → In c N → Allowed O (serial (take c.n A) ++ ops (own_of c.tx c.seen)))
       → (before rest : List (Execution Op)) (p : Execution Op) → built A N ≡ before ++ p ∷ rest

@@ -1,4 +1,4 @@
--- Meaning: where a record fails, by the summary: at which of its steps, and by which criterion.
+-- Meaning: whether a record fails, by the summary: at which of its steps, and by which criterion.
 use Rattle.std.specs.Prelude.{◌≡◌, ◌≢◌, ◌↔◌, ◌⊎◌, ℕ, zero, suc, true, false, List, [], ◌∷◌, ◌++◌, map}
 use Rattle.std.specs.Prelude.{Option, None, Some}
 use Rattle.pp_core.specs.declared.call.Kind.{Kind}

@@ -40,7 +40,7 @@ abbrev pub turning : Call → Object Three Bool
 turning k =
     record { start = false; Legal = IsToldBy; next = λ s a. is_first a; call = λ a. k }
 
--- It is made of one object at one place. But what may follow does not tell its state, and two
+-- It is made of one object at one place. But what may follow does not show its state, and two
 -- configurations with one summary differ in what may follow.
 abbrev pub SummariesDoNotSuffice : Type 0
 SummariesDoNotSuffice =

@@ -1,4 +1,4 @@
--- Items that leave a list from the last to the first, by where they stood before.
+-- Items that leave a list from the last to the first, by their positions before.
 use Rattle.std.proofs.Common.{◌≡◌, ◌<◌, ◌+◌, ℕ, zero, suc, nat_eq, position, Bool, true, false, cond, not, List, [], ◌∷◌, ◌++◌}
 use Rattle.std.proofs.Common.{filter, length, map, take, drop, get_or, refl, sym, ◌∙◌, ap, subst, inl, inr, Some, None}
 use Rattle.std.specs.List.{remove, slice_get}
@@ -17,7 +17,7 @@ use Rattle.pp_log.proofs.Leaves.{found_item, nowhere}
 use Rattle.pp_log.proofs.Leaving.{has_none, one_less}
 use Rattle.pp_log.proofs.Lists.{cut_there, drop_there, mapped_from}
 
--- one stands where it stood, if those before it stay
+-- An element that a filter keeps has its old position, if the filter keeps all elements before it.
 filter_at : {A : Type 0} (t : A → Bool) (x : List A) (i : ℕ) (a : A) → slice_get x i ≡ Some a → ((b : A) → In b (take i x) → t b ≡ true) → t a ≡ true → slice_get (filter t x) i ≡ Some a
 filter_at t [] i a at front here = cc
 filter_at {A} t (b ∷ x) zero a at front here =
@@ -27,7 +27,7 @@ filter_at {A} t (b ∷ x) (suc i) a at front here =
     ap (λ (v : Bool). slice_get (cond v (b ∷ filter t x) (filter t x)) (suc i)) (front b (inl refl))
     ∙ filter_at t x i a at (λ c j. front c (inr j)) here
 
--- Those behind the k-th of the items, e, have left the entries x, and e is to leave.
+-- Those after the k-th of the items, e, have left the entries x, and e is to leave.
 module _ {Op E : Type 0} (f : E → Item Op) (own : List (Item Op)) (x : List E) (ids : Index) (can : CanLeaveOut own (map f x) ids)
     (k : ℕ) (e : Item Op) (lt : k < length own) (is : e ≡ get_or own k e) (n : ℕ) (n_is : n ≡ k + 1) (now : List E) (left : now ≡ without_items f (drop n own) x) where
   abbrev pub log : List (Item Op)

@@ -31,7 +31,7 @@ ops-take x zero = refl
 ops-take [] (suc i) = refl
 ops-take {Op} (e ∷ x) (suc i) = ap (λ (z : List Op). e.op ∷ z) (ops-take x i)
 
--- an id that stands nowhere
+-- An id that is at no position of a list is not in the list.
 pub not_among : (x : List ℕ) (id : ℕ) → ((j : ℕ) → j < length x → get_or x j 0 ≡ id → ⊥) → In id x → ⊥
 not_among [] id h k = k
 not_among (i ∷ x) id h k = elim k [

@@ -22,7 +22,7 @@ use Rattle.pp_log.proofs.Leaving.{without_none}
 use Rattle.pp_log.proofs.Lists.{mapped_from}
 use Rattle.pp_log.proofs.Rest.{drop_none}
 
--- an item is found by its id, where all are told apart
+-- An item is found by its id if all are distinct.
 pub item_with : {Op : Type 0} (x : List (Item Op)) → HasDistinctIds x → (e : Item Op) → In e x → (at : ℕ) → slice_get (ids_of x) at ≡ Some e.id → slice_get x at ≡ Some e
 item_with {Op} x distinct e inside at found =
     let f = mapped_from (λ (d : Item Op). d.id) x at e.id found in

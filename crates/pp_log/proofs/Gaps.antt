@@ -52,7 +52,7 @@ module _ {Shape State Op Undo Gap : Type 0} (o : Object Shape State Op Undo) (la
             },
       )
 
-  -- an operation closes the gap, and others stand behind it
+  -- An operation closes the gap, and others are after it.
   pub crossed_to_end : (g h : Gap) (x y : List Op) (b : Op) (u : Undo) → CrossesAll o Bears Differ g x (crossing.Apart h) → Crosses o Bears Differ h b (crossed.Same u) → CrossesAll o Bears Differ g (x ++ b ∷ y) (crossing.Same (length x) u)
   crossed_to_end g h x y b u all one =
       let both = length-append x (b ∷ y) in
@@ -110,8 +110,7 @@ module _ {Shape State Op Undo Gap : Type 0} (o : Object Shape State Op Undo) (la
         (subst (λ (m : ℕ). CrossesAll o Bears Differ g (ops done ++ (f d).op ∷ ops rest) (crossing.Same m u)) (length-ops done ∙ sym size)
         (crossed_to_end g h (ops done) (ops rest) (f d).op u so_far one))
 
--- All items of a place were applied, of which e, with the operation a, stands behind these and
--- before z.
+-- All items of a place were applied, of which e, with the operation a, is after these and before z.
 module _ {Shape State Op Undo : Type 0} (o : Object Shape State Op Undo) (laws : IsLawful o) (b s : State) (before items : List (Item Op)) (from : ℕ) (q : Place Undo)
     (e : Item Op) (z : List (Item Op)) (is : items ≡ e ∷ z) (size : length before ≡ from) (whole : IsWhole o b (before ++ items) q s) where
   abbrev x : List Op
@@ -304,11 +303,11 @@ module _ {Shape State Op Undo : Type 0} (o : Object Shape State Op Undo) (laws :
       out_apart t next ids_are undos closes = whole_left t next ids_are stay.allowed (closes (state_from o here y) end_is_state differ)
           (undos ∙ others_are ∙ ap (λ (l : List Undo). front ++ l) (sym stay.kept))
 
--- The first of some entries, and those of its place behind it.
+-- The first of some entries, and those of its place after it.
 pub first_there : {Op E : Type 0} (place : Op → ℕ) (f : E → Item Op) (y : List E) (d : E) (some : 0 < length y) (is : d ≡ get_or y 0 d) → with_first place f y ≡ f d ∷ items_on place f (place (f d).op) (take (length y - 1) (drop 1 y))
 first_there place f y d some is = whole_is place f y d some is (place (f d).op) refl ∙ all_is place f y d some is (place (f d).op) refl
 
--- Where it is the last one there, none stands behind it that it might not let pass.
+-- If the entry is the last one there, none is after it that may not move past it.
 pub last_passes : {Shape State Op Undo E : Type 0} (o : Object Shape State Op Undo) (place : Op → ℕ) (f : E → Item Op) (y : List E) (d : E) (b s : State) (before : List (Item Op)) (from : ℕ) (q : Place Undo) (a : Op)
     → 0 < length y → d ≡ get_or y 0 d → length before ≡ from → IsWhole o b (before ++ with_first place f y) q s → from + 1 ≡ length q.undos.items → a ≡ (f d).op → Passes o (before ++ with_first place f y) from a []
 last_passes {Shape} {State} {Op} o place f y d b s before from q a some is size whole last same =

@@ -171,7 +171,7 @@ module _ {Shape State Op Undo : Type 0} (o : Object Shape State Op Undo) (place 
       pub can_gather : CanGather o place batch from q.ids.items q.undos.items
       can_gather = (items, has_batch, many)
 
-      -- they have come behind all others of their place
+      -- The items of the batch have come after all others of their place.
       module _ (vs : List Undo) (gathers : Gathers o place batch from q.ids.items q.undos.items vs) where
         behind : IsAlong o b whole.run.base (ops (others ++ batch)) vs s
         behind = gathers b s whole.run.base items has_batch along

@@ -21,7 +21,7 @@ turned a b = elim (eqb_tells a b) [
 pub position_of_id : {Op : Type 0} (x : List (Item Op)) (id : ℕ) → position (nat_eq id) (ids_of x) ≡ position (λ e. e.id == id) x
 position_of_id {Op} x id = same_position (λ (e : Item Op). e.id) (nat_eq id) (λ (e : Item Op). e.id == id) (λ e. turned id e.id) x
 
--- The ids of items are new, stand once, and stand where the items do.
+-- If an id is new among items, it is new among their ids.
 pub new_id : {Op : Type 0} (x : List (Item Op)) (id : ℕ) → IsNew id x → IsNewId id (ids_of x)
 new_id [] id h = tt
 new_id (e ∷ x) id h = (h.0, new_id x id h.1)

@@ -118,7 +118,7 @@ module _ {Shape State Op Undo : Type 0} (o : Object Shape State Op Undo) (place 
           taken_out o place SameAt laws places s t log ps i e (place e.op) k q r h is_found.within is_found.site is_found.is is_found.at is_found.index
           (out b (there place (place e.op) log) (there place (place e.op) behind) passes (all_there place (place e.op) behind) (whole_of o place SameAt laws places (place e.op) s log ps q h is_found.at))
 
--- an item that stands in a list is found there
+-- An item that is in a list is found there.
 pub nowhere : {Op : Type 0} (x : List (Item Op)) (e : Item Op) → position (λ d. d.id == e.id) x ≡ None → In e x → ⊥
 nowhere x e none inside = new_not_in x e (new_len x e.id (none_len (λ d. d.id == e.id) x none)) inside
   where
@@ -135,7 +135,7 @@ found_item {Op} x distinct e i found inside =
     let one : get_or x i e ≡ e = by_key (λ (d : Item Op). d.id) x distinct (get_or x i e) e (stands_in x i (get_or x i e) there) inside (eqb-true (get_or x i e).id e.id p.1) in
     there ∙ ap (λ (d : Item Op). Some d) one
 
--- Those behind the k-th of the items, e, have left the list, and e is to leave.
+-- Those after the k-th of the items, e, have left the list, and e is to leave.
 module _ {Shape State Op Undo : Type 0} (o : Object Shape State Op Undo) (own log : List (Item Op)) (distinct : HasDistinctIds log) (may : MayLeave o own log)
     (k : ℕ) (e : Item Op) (lt : k < length own) (is : e ≡ get_or own k e) where
   abbrev pub now_of : List (Item Op)

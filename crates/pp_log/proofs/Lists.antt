@@ -1,4 +1,4 @@
--- Lists: where an element stands, and what a list is with one more, one less, or one set.
+-- Lists: the positions of elements, and lists with one more, one less, or one set.
 use Rattle.std.proofs.Common.{◌≡◌, ℕ, ◌<◌, ◌≤◌, ◌+◌, ◌-◌, zero, suc, Bool, not, cond, nat_lt, List, []}
 use Rattle.std.proofs.Common.{◌∷◌, ◌++◌, length, take, drop, map, get_or, refl, sym, ◌∙◌, ap, arith}
 use Rattle.std.proofs.Common.{inl, inr, Some, None}
@@ -34,7 +34,7 @@ push-injective (a ∷ xs) (b ∷ ys) x y e =
 pub found_behind : {A : Type 0} (before x : List A) (i j : ℕ) (a : A) → j ≡ length before + i → a ≡ get_or x i a → a ≡ get_or (before ++ x) j a
 found_behind before x i j a e is = is ∙ sym (get_or-append-add before x i a) ∙ ap (λ (k : ℕ). get_or (before ++ x) k a) (sym e)
 
--- all that stands behind a position
+-- All that is after a position.
 pub all_behind : {A : Type 0} (x : List A) (i : ℕ) → take (length x - i) (drop i x) ≡ drop i x
 all_behind x i = let size = length-drop i x in take_all (length x - i) (drop i x) (omega arith)
 
@@ -43,7 +43,7 @@ pub remove_mid : {A : Type 0} (u v : List A) (e : A) → remove (u ++ e ∷ v) (
 remove_mid [] v e = refl
 remove_mid {A} (d ∷ u) v e = ap (λ (z : List A). d ∷ z) (remove_mid u v e)
 
--- two that stand one behind the other
+-- Two that are one after the other.
 pub get_second : {A : Type 0} (u v : List A) (d e f : A) (n : ℕ) → length u ≡ n → get_or (u ++ d ∷ e ∷ v) (n + 1) f ≡ e
 get_second {A} u v d e f n is = ap (λ (k : ℕ). get_or (u ++ d ∷ e ∷ v) (k + 1) f) (sym is) ∙ get_or-append-add u (d ∷ e ∷ v) 1 f
 
@@ -106,7 +106,7 @@ in_at (b ∷ x) a h = elim h [
   | inr later ↦ let r = in_at x a later in let lt : suc r.0 < length (b ∷ x) = omega arith in (suc r.0, lt, r.2)
 ]
 
--- what stands in front stays there
+-- An element of the first list has the same position in the joined list.
 pub front_stays : {A : Type 0} (x y : List A) (j : ℕ) → j < length x → slice_get (x ++ y) j ≡ slice_get x j
 front_stays [] y j h = absurd (omega arith)
 front_stays (a ∷ x) y zero h = refl
@@ -159,7 +159,7 @@ cut {A} {B} f (a ∷ x) (c ∷ before) after b h =
       entry_is = r.entry_is;
     }
 
--- Where a test first holds of a list, and of the list that it was mapped from.
+-- The first position at which a test is true is the same in a list and in the list that it is mapped to.
 place_of_same : {A B : Type 0} (f : A → B) (p : B → Bool) (q : A → Bool) → ((a : A) → p (f a) ≡ q a) → (x : List A) → position_or_len p (map f x) ≡ position_or_len q x
 place_of_same f p q h [] = refl
 place_of_same f p q h (a ∷ x) =
@@ -179,7 +179,7 @@ none_len p x h = elim (cases_lt (position_or_len p x) (length x)) [
   | inr l ↦ l
 ]
 
--- the one behind the first ones is set
+-- Setting an element after a first list sets it in the second list.
 pub set_behind : {A : Type 0} (x y : List A) (i n : ℕ) (a : A) → n ≡ length x + i → slice_set (x ++ y) n a ≡ x ++ slice_set y i a
 set_behind {A} [] y i n a e = let same : n ≡ i = omega arith in ap (λ (k : ℕ). slice_set y k a) same
 set_behind (b ∷ x) y i zero a e = absurd (omega arith)
@@ -190,7 +190,7 @@ pub set_mid : {A : Type 0} (x y : List A) (a b : A) → slice_set (x ++ a ∷ y)
 set_mid [] y a b = refl
 set_mid {A} (c ∷ x) y a b = ap (λ (z : List A). c ∷ z) (set_mid x y a b)
 
--- a list of one item has none behind it
+-- A list of one item has none after it.
 pub only_one : {X : Type 0} (x : X) (l : List X) → length (x ∷ l) ≡ 1 → l ≡ []
 only_one x [] h = refl
 only_one x (z ∷ l) h = absurd (omega arith)

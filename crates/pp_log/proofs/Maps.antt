@@ -123,6 +123,6 @@ pub site_seen : {Shape Op E : Type 0} (place : Op → ℕ) (f : E → Item Op) (
 site_seen {Shape} {Op} {E} place f sh x log i a e p is lt at item here =
     site_of place (map f x) i e p (inside f sh x log i is lt) (item ∙ ap f at ∙ sym (get_or-map f x i a) ∙ ap (λ (d : Item Op). get_or (map f x) i d) (sym item)) (sym here)
 
--- How many operations of its place stand from an entry on.
+-- How many operations of its place are from an entry on.
 pub count_seen : {Shape Op E : Type 0} (place : Op → ℕ) (f : E → Item Op) (sh : Shape) (x : List E) (log : Shape × List E) (i : ℕ) → ◌≡◌ {A = Shape × List E} (sh, x) log → from_place place (ops (map f x)) i ≡ from_place place (entry_ops f log.1) i
 count_seen {Shape} {Op} {E} place f sh x log i is = ap (λ (z : List Op). from_place place z i) (ops_mapped f x) ∙ ap (λ (p : Shape × List E). from_place place (entry_ops f p.1) i) is

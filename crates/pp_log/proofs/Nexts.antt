@@ -1,4 +1,4 @@
--- Where the items of a place stand in the whole list, and which of them is the next.
+-- The positions of the items of a place in the whole list, and which of them is the next.
 use Rattle.std.proofs.Common.{◌≡◌, ℕ, ◌<◌, ◌≤◌, zero, suc, ◌==◌, List, [], ◌∷◌, length}
 use Rattle.std.proofs.Common.{take, map, get_or, refl, sym, ◌∙◌, ap, subst, arith, inl, inr}
 use Rattle.std.proofs.Common.{Option, Some, None, IfSome, IfNone}
@@ -22,17 +22,17 @@ use Rattle.pp_log.proofs.Maps.{new_len, position_seen}
 use Rattle.pp_log.proofs.Parted.{is_at, there_at, there_off}
 use Rattle.pp_log.proofs.Sites.{kept_of}
 
--- How many items of a place stand before a position.
+-- How many items of a place are before a position.
 abbrev pub ahead : {Op : Type 0} → (Op → ℕ) → ℕ → List (Item Op) → ℕ → ℕ
 ahead place p x m = length (there place p (take m x))
 
--- The k-th item of a place stands at a position of the whole list.
+-- The k-th item of a place is at a position of the whole list.
 pub record IsStand {Op : Type 0} (place : Op → ℕ) (p : ℕ) (x : List (Item Op)) (k : ℕ) (e : Item Op) (m : ℕ) : Type 0 where
   pub is : slice_get x m ≡ Some e
   pub on : place e.op ≡ p
   pub count : ahead place p x m ≡ k
 
--- An id stands once.
+-- In a list with distinct ids, an id is at one position.
 one_position : {Op : Type 0} (x : List (Item Op)) (m n : ℕ) (e d : Item Op) → AreDistinct x → slice_get x m ≡ Some e → slice_get x n ≡ Some d → e.id ≡ d.id → m ≡ n
 one_position [] m n e d h at there is = cc
 one_position (a ∷ x) zero zero e d h at there is = refl
@@ -47,7 +47,7 @@ module _ {Op : Type 0} (place : Op → ℕ) (p : ℕ) where
   ahead_off : (d : Item Op) (x : List (Item Op)) (m : ℕ) → (place d.op ≡ p → ⊥) → ahead place p (d ∷ x) (suc m) ≡ ahead place p x m
   ahead_off d x m h = ap length (there_off place p d (take m x) h)
 
-  -- no more stand before an earlier position
+  -- At least as many items of the place are before a later position.
   ahead_rises : (x : List (Item Op)) (m n : ℕ) → m ≤ n → ahead place p x m ≤ ahead place p x n
   ahead_rises x zero n h = omega arith
   ahead_rises x (suc m) zero h = absurd (omega arith)
@@ -57,7 +57,7 @@ module _ {Op : Type 0} (place : Op → ℕ) (p : ℕ) where
     | inr off ↦ let one = ahead_off d x m off in let two = ahead_off d x n off in omega arith
   ]
 
-  -- and fewer where one of them stands between
+  -- More items of the place are before a later position, if the earlier position has such an item.
   ahead_more : (x : List (Item Op)) (m n : ℕ) (e : Item Op) → slice_get x m ≡ Some e → place e.op ≡ p → m < n → ahead place p x m < ahead place p x n
   ahead_more x m zero e at on h = absurd (omega arith)
   ahead_more [] m (suc n) e at on h = cc
@@ -76,7 +76,7 @@ module _ {Op : Type 0} (place : Op → ℕ) (p : ℕ) where
     | inr off ↦ let one = ahead_off d x m off in let all = ap length (there_off place p d x off) in omega arith
   ]
 
-  -- each item of the place stands somewhere
+  -- Each item of the place is at a position of the whole list.
   stand : (x : List (Item Op)) (k : ℕ) (e : Item Op) → slice_get (there place p x) k ≡ Some e → (m : ℕ) × IsStand place p x k e m
   stand [] k e h = cc
   stand (d ∷ x) zero e h = elim (is_at place d p) [
@@ -93,7 +93,7 @@ module _ {Op : Type 0} (place : Op → ℕ) (p : ℕ) where
         (suc r.0, record { is = r.1.is; on = r.1.on; count = ahead_off d x r.0 off ∙ r.1.count })
   ]
 
-  -- where its id is found
+  -- An item of the place is at the position at which its id is found.
   pub stand_found : (x : List (Item Op)) (k : ℕ) (e : Item Op) (m : ℕ) → AreDistinct x → slice_get (there place p x) k ≡ Some e → position (λ (d : Item Op). d.id == e.id) x ≡ Some m → IsStand place p x k e m
   stand_found x k e m h at found =
       let r = stand x k e at in
@@ -108,7 +108,7 @@ module _ {Op : Type 0} (place : Op → ℕ) (p : ℕ) where
       let r = stand x k e at in
       new_not e.id x r.0 e (new_len x e.id (none_len (λ (d : Item Op). d.id == e.id) x lost)) r.1.is refl
 
-  -- an item of the place is before a position where fewer of them are ahead of it
+  -- If the k-th item of the place is before a position, more than k items of the place are before it.
   pub stand_before : (x : List (Item Op)) (k : ℕ) (e : Item Op) (m from : ℕ) → IsStand place p x k e m → m < from → k < ahead place p x from
   stand_before x k e m from r h = let less = ahead_more x m from e r.is r.on h in let count = r.count in omega arith
 
@@ -130,7 +130,7 @@ item_at : {E Op : Type 0} (f : E → Item Op) (x : List E) (m : ℕ) (a : E) →
 item_at f x m a h = slice_get-map f x m ∙ ap (option_map f) h
 
 module _ {E Op : Type 0} (place : Op → ℕ) (f : E → Item Op) (p : ℕ) (x : List E) where
-  -- where the k-th item of the place is found, which has the k-th id
+  -- If the k-th id of a place is found at a position, the k-th item of the place is at that position.
   pub found_at : (ids : List ℕ) (k id m : ℕ) → AreDistinct (map f x) → ids ≡ ids_of (there place p (map f x)) → slice_get ids k ≡ Some id → Some m ≡ position (λ (a : E). (f a).id == id) x → (e : Item Op) × IsStand place p (map f x) k e m
   found_at ids k id m h is at found =
       let e = mapped_from (λ (d : Item Op). d.id) (there place p (map f x)) k id (ap (λ (z : List ℕ). slice_get z k) (sym is) ∙ at) in
@@ -143,7 +143,7 @@ module _ {E Op : Type 0} (place : Op → ℕ) (f : E → Item Op) (p : ℕ) (x :
       stand_not_lost place p (map f x) k e.0 e.1 (position_seen f (map f x) x e.0.id refl ∙ ap (λ (i : ℕ). position (λ (a : E). (f a).id == i) x) e.2 ∙ sym lost)
 
 module _ {E Op : Type 0} (place : Op → ℕ) (f : E → Item Op) (p : ℕ) (x : List E) (from : ℕ) where
-  -- as many stand before the next item of the place as stand before the position
+  -- As many are before the next item of the place as are before the position.
   pub next_stands : (k : ℕ) (e : Item Op) (m : ℕ) → IsStand place p (map f x) k e m → k ≡ ahead place p (map f x) from → IsFirstFrom (IsOn place f p) x from m
   next_stands k e m r is =
       let a = mapped_from f x m e r.is in
@@ -162,7 +162,7 @@ module _ {E Op : Type 0} (place : Op → ℕ) (f : E → Item Op) (p : ℕ) (x :
             omega arith;
       }
 
-  -- no item of the place stands behind where all of them stand before
+  -- No item of the place is after a position if all of them are before it.
   pub none_stands : length (there place p (map f x)) ≤ ahead place p (map f x) from → NoneFrom (IsOn place f p) x from
   none_stands all j b l at on =
       let less = ahead_more place p (map f x) j (suc j) (f b) (item_at f x j b at) on (omega arith) in

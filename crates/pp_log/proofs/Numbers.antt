@@ -104,14 +104,14 @@ number_of_left (a ∷ ids) [] i id other h at apart = absurd (omega arith)
 number_of_left (a ∷ ids) (n ∷ numbers) zero id other h at apart = let same : a ≡ id = cc in sym (not_here a n other ids numbers (λ is. apart (sym same ∙ is)))
 number_of_left (a ∷ ids) (n ∷ numbers) (suc i) id other h at apart = ap (λ (o : Option ℕ). cond (nat_eq a other) (Some n) o) (number_of_left ids numbers i id other (omega arith) at apart)
 
--- where an id stands, by its number
+-- An id that is the first of a list is at the position 0.
 place_here : (id i : ℕ) (ids : List ℕ) → i ≡ id → position_or_len (nat_eq id) (i ∷ ids) ≡ 0
 place_here id i ids h = ap (λ (b : Bool). cond (not b) (1 + position_or_len (nat_eq id) ids) 0) (eq-eqb id i (sym h))
 
 place_later : (id i : ℕ) (ids : List ℕ) → (i ≡ id → ⊥) → position_or_len (nat_eq id) (i ∷ ids) ≡ 1 + position_or_len (nat_eq id) ids
 place_later id i ids h = ap (λ (b : Bool). cond (not b) (1 + position_or_len (nat_eq id) ids) 0) (ne_eqb id i (λ is. h (sym is)))
 
--- the number of an id that has one stands where the id stands
+-- An id that has a number is in the list of ids, and the number is the one at its position.
 number_there : (ids numbers : List ℕ) (id n : ℕ) → length numbers ≡ length ids → number_of ids numbers id ≡ Some n → (position_or_len (nat_eq id) ids < length ids) × (get_or numbers (position_or_len (nat_eq id) ids) 0 ≡ n)
 number_there [] numbers id n h k = cc
 number_there (i ∷ ids) [] id n h k = cc
@@ -142,7 +142,7 @@ position_by_number ids numbers next id n k size h has lt at =
     ] in
     ap (λ (b : Bool). cond b (Some j) None) (lt-ltb j (length ids) there.0) ∙ ap Some same
 
--- and where there is no number there is no id
+-- An id without a number is not in the list of ids.
 no_place : (ids numbers : List ℕ) (id : ℕ) → length numbers ≡ length ids → number_of ids numbers id ≡ None → position_or_len (nat_eq id) ids ≡ length ids
 no_place [] numbers id h k = refl
 no_place (i ∷ ids) [] id h k = absurd (omega arith)

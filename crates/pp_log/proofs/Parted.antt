@@ -132,7 +132,7 @@ module _ {E Op : Type 0} (place : Op → ℕ) (f : E → Item Op) (p : ℕ) (x :
   pub none_more_there : (place (f d).op ≡ p → ⊥) → there place p (map f (take (i + 1) x)) ≡ front
   none_more_there off = longer ∙ ap (λ (z : List (Item Op)). front ++ z) (there_off place p (f d) [] off) ∙ append-nil front
 
-  -- where it has the place, it is the one behind those before it
+  -- If an entry has the place, it is the one after those before it.
   pub stands_there : place (f d).op ≡ p → f d ≡ get_or (items_on place f p x) (length front) (f d)
   stands_there at =
       let rest = there place p (map f (drop (i + 1) x)) in
@@ -162,7 +162,7 @@ module _ {E Op : Type 0} (place : Op → ℕ) (f : E → Item Op) (p : ℕ) (x :
       let one = length_push front (f d) in
       omega arith
 
--- where some of the first entries have the place, there are some of them
+-- If some of the first entries have the place, there are some of them.
 pub some_first : {E Op : Type 0} (place : Op → ℕ) (f : E → Item Op) (p : ℕ) (x : List E) (n : ℕ) → 0 < length (items_on place f p (take n x)) → 0 < n
 some_first place f p x zero h = absurd (omega arith)
 some_first place f p x (suc n) h = omega arith

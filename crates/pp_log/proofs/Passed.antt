@@ -1,4 +1,4 @@
--- An item that lets those behind it pass, carried behind them and taken back there.
+-- An item that those after it may move past, carried after them and taken back there.
 use Rattle.std.proofs.Common.{◌≡◌, ℕ, ◌<◌, ◌+◌, Bool, true, false, IsTrue}
 use Rattle.std.proofs.Common.{List, [], ◌∷◌, ◌++◌, length, take, drop, get_or, refl, sym, ◌∙◌, ap, subst}
 use Rattle.std.proofs.Common.{arith, append_assoc, append-nil, length-append}
@@ -42,7 +42,7 @@ module _ {Shape State Op Undo : Type 0} (o : Object Shape State Op Undo) (laws :
   pub short : (x : List Op) → IsAllowed o sh (base ++ x) → AllowedFrom o b x
   short x h = subst (λ (t : State). AllowedFrom o t x) (sym log.is) (allowed-second o (o.start sh) base x h)
 
-  -- the operation a, and c behind it, which it lets pass
+  -- The operation a, and c after it, which may move past a.
   module _ (x z : List Op) (a c : Op) (swaps : Swaps o a c) (h : AllowedFrom o b (x ++ a ∷ c ∷ z)) where
     whole : IsAllowed o sh ((base ++ x) ++ a ∷ c ∷ z)
     whole = subst (IsAllowed o sh) (sym (append_assoc base x (a ∷ c ∷ z))) (long (x ++ a ∷ c ∷ z) h)
@@ -83,7 +83,7 @@ module _ {Shape State Op Undo : Type 0} (o : Object Shape State Op Undo) (laws :
     both_now : (v w : Undo) → o.upkeep.kept s c ≡ v → o.upkeep.kept (o.next s c) a ≡ w → front ++ v ∷ w ∷ rest ≡ kept_along o b ((x ++ c ∷ []) ++ a ∷ z)
     both_now v w first second = sym (after ∙ ap (λ (u : Undo). front ++ u ∷ o.upkeep.kept (o.next s c) a ∷ rest) first ∙ ap (λ (u : Undo). front ++ v ∷ u ∷ rest) second)
 
-    -- what stands for c is what it keeps in some state
+    -- The undo value of c is what c keeps in some state.
     pub other_may_keep : (us : List Undo) (d : Undo) (n : ℕ) → length x ≡ n → us ≡ kept_along o b (x ++ a ∷ c ∷ z) → MayKeep o c (get_or us (n + 1) d)
     other_may_keep us d n is kept = (
       o.next s a,
@@ -92,7 +92,7 @@ module _ {Shape State Op Undo : Type 0} (o : Object Shape State Op Undo) (laws :
           ∙ get_second front rest (o.upkeep.kept s a) (o.upkeep.kept (o.next s a) c) d n (length-kept o b x ∙ is)),
     )
 
-    -- a comes behind c; each keeps what it kept, and the two values are exchanged
+    -- The operation a comes after c. Each keeps what it kept, and the two values are exchanged.
     pub kept_alone : (us : List Undo) (n : ℕ) → length x ≡ n → KeptAs o false a c → us ≡ kept_along o b (x ++ a ∷ c ∷ z) → swap us n (n + 1) ≡ kept_along o b ((x ++ c ∷ []) ++ a ∷ z)
     kept_alone us n is alone kept =
         let both = kept_at false alone in
@@ -106,7 +106,7 @@ module _ {Shape State Op Undo : Type 0} (o : Object Shape State Op Undo) (laws :
         let both = kept_at true in_turn in
         kept ∙ before ∙ both_now (o.upkeep.kept s a) (o.upkeep.kept (o.next s a) c) both.0 both.1
 
-  -- an operation that keeps alone leaves what the others kept, and keeps the same behind them
+  -- An operation that exchanges no undo value leaves what the others kept, and keeps the same after them.
   module _ (a : Op) (alone : (c : Op) → Swaps o a c → KeptAs o false a c) where
     along : (z x : List Op) → LetsPass o a z → AllowedFrom o b (x ++ a ∷ z)
         → (kept_along o (o.next (state_from o b x) a) z ≡ kept_along o (state_from o b x) z) × (o.upkeep.kept (state_from o b (x ++ z)) a ≡ o.upkeep.kept (state_from o b x) a)
@@ -139,7 +139,7 @@ module _ {Shape State Op Undo : Type 0} (o : Object Shape State Op Undo) (laws :
           own = ap (λ (l : List Undo). get_or l n d) cut ∙ get_or_at front (o.upkeep.kept s a) rest d n size ∙ sym both.1;
         }
 
--- All items of the place were applied, of which the i-th lets those behind it pass.
+-- All items of the place were applied. Those after the i-th one may move past it.
 module _ {Shape State Op Undo : Type 0} (o : Object Shape State Op Undo) (laws : IsLawful o) (b s : State) (items : List (Item Op)) (us : List Undo) (h : IsRun o b items us s) (all : length us ≡ length items)
     (i : ℕ) (e : Item Op) (k : i < length items) (is : e ≡ get_or items i e) where
   abbrev a : Op
@@ -174,7 +174,7 @@ module _ {Shape State Op Undo : Type 0} (o : Object Shape State Op Undo) (laws :
       ap (λ (n : ℕ). ops (remove items n)) (sym size) ∙ ap (λ (l : List (Item Op)). ops (remove l (length (take i items)))) (cut_there items i e k is)
       ∙ ap ops (remove_mid (take i items) (drop (i + 1) items) e) ∙ map-append (λ (f : Item Op). f.op) (take i items) (drop (i + 1) items)
 
-  -- it was carried behind all
+  -- The item was carried after all others.
   module _ (p : LetsPass o e.op (ops (drop (i + 1) items))) (vs : List Undo) (u : Undo) (carried : IsCarried o b (x ++ y) a vs u) where
     last : IsAllowed o (o.shape b) (((h.base ++ x) ++ y) ++ a ∷ [])
     last = passed_last o laws (o.shape b) (h.base ++ x) y a p
@@ -251,7 +251,7 @@ module _ {Shape State Op Undo : Type 0} (o : Object Shape State Op Undo) (laws :
           kept = carried.others ∙ ap (kept_along o b) (sym full);
         }
 
--- The i-th item, with the operation a, lets those behind it pass.
+-- The i-th item, with the operation a. Those after it may move past it.
 module _ {Shape State Op Undo : Type 0} (o : Object Shape State Op Undo) (laws : IsLawful o) (b s : State) (items z : List (Item Op)) (us : List Undo) (i : ℕ) (a : Op) (h : IsRun o b items us s) (all : length us ≡ length items)
     (passes : Passes o items i a z) where
   within : i < length items
@@ -276,7 +276,7 @@ module _ {Shape State Op Undo : Type 0} (o : Object Shape State Op Undo) (laws :
   many_before : length (ops (take i items)) ≡ i
   many_before = let k = within in length-ops (take i items) ∙ length-take-le i items (omega arith)
 
-  -- carried behind all
+  -- The item, carried after all others.
   pub way_last : (place : Op → ℕ) (vs : List Undo) (v : Undo) → AllAt place (place a) (ops z) → CarriesOut o place a i us vs v → IsCarried o b (ops (take i items) ++ ops z) a vs v
   way_last place vs v one_place carries = carries b h.base (ops (take i items)) (ops z) many_before passes.behind one_place way_first
 

@@ -41,7 +41,7 @@ module _ {Shape State Op Undo : Type 0} (o : Object Shape State Op Undo) where
         kept = r.kept ∙ ap (kept_along o b) same;
       }
 
-  -- where none but the items before are applied, others may stand behind them
+  -- If none but the items before are applied, others may be after them.
   pub run_before : (b s t : State) (x y z : List (Item Op)) (us vs : List Undo) → length us ≡ length x → IsRun o b (x ++ z) vs t → IsRun o b (x ++ y) us s → IsRun o b (x ++ z) us s
   run_before b s t x y z us vs n whole r =
       let both = length-append x z in

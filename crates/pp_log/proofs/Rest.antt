@@ -1,4 +1,4 @@
--- What stands in a list behind some elements in front, where one of it is taken out, or where those in front move.
+-- The part of a list after its first elements, if one element is taken out, or the first elements move.
 use Rattle.std.proofs.Common.{◌≡◌, ℕ, zero, suc, ◌<◌, ◌≤◌, ◌+◌, ◌-◌, List, [], ◌∷◌, ◌++◌, length, take, drop, refl, sym, ◌∙◌, ap, arith}
 use Rattle.std.specs.List.{copy_within, remove}
 use Rattle.std.proofs.Math.Seq.{drop-nil, take-length}
@@ -46,7 +46,7 @@ drop-copied {A} x n i lt =
     let same : n + i - n ≡ i = omega arith in
     moved x n (n + 1) (n + i - n) (n + 1 + (n + i - n)) refl refl (omega arith) ∙ ap (λ (k : ℕ). remove (drop n x) k) same
 
--- those behind some in front, at the start
+-- If the elements from n on are copied to the start, they are the first elements.
 pub take-copied : {A : Type 0} (x : List A) (n : ℕ) → n ≤ length x → take (length (drop n x)) (copy_within x n (length x) 0) ≡ drop n x
 take-copied {A} x n within =
     let size = length-drop n x in

@@ -58,7 +58,7 @@ module _ {Shape State Op Undo : Type 0} (o : Object Shape State Op Undo) where
   length-kept s (a ∷ x) = ap suc (length-kept (o.next s a) x)
 
 module _ {Shape State Op Undo : Type 0} (o : Object Shape State Op Undo) (laws : IsLawful o) where
-  -- more operations behind a log
+  -- More operations after a log.
   pub log-append : (b : State) (base x : List Op) → IsLog o b base → AllowedFrom o b x → AllRanged o x → IsLog o (state_from o b x) (base ++ x)
   log-append b base x h k r =
       let shape = shape_stays o laws b x k in

@@ -109,13 +109,13 @@ module _ {Shape State Op Undo : Type 0} (o : Object Shape State Op Undo) (place 
         absurd (not_empty site.u site.v e (sym none ∙ site.here))
   ]
 
-  -- and the item stands there
+  -- The id of an item is among the ids that a log keeps for the item's place.
   pub id_there : (s : State) (log : List (Item Op)) (ps : List (Place Undo)) (i : ℕ) (e : Item Op) (p : ℕ) (q : Place Undo) → Keeps o place s log ps → IsSite place log i e p → slice_get ps p ≡ Some q → (In e.id q.ids.items → ⊥) → ⊥
   id_there s log ps i e p q h site at none =
       let kept : IsKept o (o.start (o.shape s)) (there place p log) q = subst (KeptIn o (o.start (o.shape s)) (there place p log)) at (h.kept p) in
       none (subst (In e.id) (sym (kept.same_ids ∙ ap (λ (z : List (Item Op)). ids_of z) site.here ∙ ids-append site.u (e ∷ site.v))) (in_right e.id (ids_of site.u) (ids_of (e ∷ site.v)) (inl refl)))
 
-  -- the ids there, and where that of the item stands
+  -- The ids that a log keeps for a place are those of the items there.
   pub kept_of : (s : State) (log : List (Item Op)) (ps : List (Place Undo)) (p : ℕ) (q : Place Undo) → Keeps o place s log ps → slice_get ps p ≡ Some q → q.ids.items ≡ ids_of (there place p log)
   kept_of s log ps p q h e = let kept : IsKept o (o.start (o.shape s)) (there place p log) q = subst (KeptIn o (o.start (o.shape s)) (there place p log)) e (h.kept p) in kept.same_ids
 
@@ -169,7 +169,7 @@ module _ {Shape State Op Undo : Type 0} (o : Object Shape State Op Undo) (place 
       let same = taken_there place log i e p k site index in
       (kept.0, kept.1, differs_first o place SameAt laws places p sh (remove log i) id answer (subst (IsAllowed o sh) base allowed) (subst (λ (z : List Op). DiffersFrom o itself (state_after o sh z) (there place p (remove log i)) id answer) base (subst (λ (z : List (Item Op)). DiffersFrom o itself (state_after o sh (ops (elsewhere place p log))) z id answer) same takes.1)))
 
-  -- the list that a removal leaves, and what it answers
+  -- The list that a removal leaves, and what it returns.
   pub left_over : (s t : State) (log : List (Item Op)) (ps : List (Place Undo)) (i : ℕ) (e : Item Op) (p k : ℕ) (q r : Place Undo) (removed : Removed) → Keeps o place s log ps → IsFound place log ps i e p k q → TakesOut o (state_after o (o.shape s) (ops (elsewhere place p log))) (there place p log) k r t removed → Keeps o place t (left removed log i) (slice_set ps p r) × RemovesEntry o itself (o.shape s, log) i (o.shape t, left removed log i) removed
   left_over s t log ps i e p k q r Done h found takes =
       let kept = taken_out s t log ps i e p k q r h found.within found.site found.is found.at found.index takes in

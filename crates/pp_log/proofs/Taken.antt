@@ -36,7 +36,7 @@ module _ {Shape State Op Undo : Type 0} (o : Object Shape State Op Undo) (own lo
   stays : (p : Item Op) → In p batch → not (has_id p.id (ids_of last)) ≡ true
   stays p i = ap not (has_none p.id last (λ q j k. distinct p q (in_order p q (before_across p q batch last i j)) (sym k)))
 
-  -- what still stands behind one of the batch, and is not of the batch, is none of its own
+  -- An entry after one of the batch, that has not left and is not of the batch, is none of the items that leave.
   no_other : (p q : Item Op) → In p batch → Before p q log → not (has_id q.id (ids_of last)) ≡ true → has_id q.id (ids_of batch) ≡ false → has_id q.id (ids_of own) ≡ false
   no_other p q i w left_in other = has_none q.id own (λ e j k.
       let one : e ≡ q = by_key (λ (d : Item Op). d.id) log distinct e q (may.stand e j) (before_in_second p q log w) k in

@@ -25,8 +25,8 @@ pub record IsAlong {Shape State Op Undo : Type 0} (o : Object Shape State Op Und
 abbrev pub AreOnOnePlace : {Op : Type 0} → (Op → ℕ) → List (Item Op) → Type 0
 AreOnOnePlace {Op} place batch = (p q : Item Op) → In p batch → In q batch → place p.op ≡ place q.op
 
--- The items come behind the operation at this position, right before which they stand, which has
--- their place, and which each of them lets pass.
+-- The items come after the operation at this position. They are right before it, it has their
+-- place, and it may move past each of them.
 abbrev pub CarriesAllOver : {Shape State Op Undo : Type 0} → Object Shape State Op Undo →
     (Op → ℕ) → List (Item Op) → ℕ → List Undo → List Undo → Type 0
 CarriesAllOver {Shape} {State} {Op} o place batch at us vs =
@@ -35,8 +35,8 @@ CarriesAllOver {Shape} {State} {Op} o place batch at us vs =
     → IsAlong o b base (x ++ (ops batch ++ c ∷ z)) us s
     → IsAlong o b base ((x ++ c ∷ []) ++ (ops batch ++ z)) vs s
 
--- Of the items of a place, which have these ids, those of a batch may leave, the first of which
--- stands at this position.
+-- Among the items of a place, which have these ids, those of a batch may leave. The first of them
+-- is at this position.
 pub record HasBatch {Shape State Op Undo : Type 0} (o : Object Shape State Op Undo)
     (place : Op → ℕ) (batch : List (Item Op)) (from : ℕ) (ids : List ℕ)
     (items : List (Item Op)) : Type 0 where
@@ -52,7 +52,7 @@ CanGather {Shape} {State} {Op} o place batch from ids us =
     (items : List (Item Op)) × HasBatch o place batch from ids items
     × (length us ≡ length items)
 
--- Those of the batch come behind all others.
+-- Those of the batch come after all others.
 abbrev pub Gathers : {Shape State Op Undo : Type 0} → Object Shape State Op Undo → (Op → ℕ) →
     List (Item Op) → ℕ → List ℕ → List Undo → List Undo → Type 0
 Gathers {Shape} {State} {Op} o place batch from ids us vs =

@@ -1,4 +1,4 @@
--- Proof machinery: how a state differs behind some operations from the one that would be there
+-- Proof machinery: how a state differs after some operations from the one that would be there
 -- without an operation before them.
 use Rattle.std.specs.Prelude.{◌≡◌, ◌<◌, ℕ, List, ◌∷◌, length, slice_set}
 use Rattle.pp_kind.specs.Object.{AllowedFrom, Object, state_from}
@@ -24,7 +24,7 @@ pub record AllMeet {Shape State Op Undo : Type 0} (o : Object Shape State Op Und
 
 module _ {Shape State Op Undo Gap : Type 0} (o : Object Shape State Op Undo)
     (Bears : Gap → State → Type 0) (Differ : Gap → State → State → Type 0) where
-  -- How two states that differ by a gap differ behind operations that are allowed from the first.
+  -- How two states that differ by a gap differ after operations that are allowed from the first.
   abbrev pub CrossesAll : Gap → List Op → Crossing Gap Undo → Type 0
   CrossesAll g x crossing.Idle =
       (s : State) → o.upkeep.IsState s → AllowedFrom o s x
@@ -40,7 +40,7 @@ module _ {Shape State Op Undo Gap : Type 0} (o : Object Shape State Op Undo)
       × ((t : State) → o.upkeep.IsState t → Differ g s t → AllMeet o x at u s t))
   CrossesAll g x crossing.Unknown = Unit {0}
 
-  -- How the state behind an operation that kept this, and others, differs from the one behind these
+  -- How the state after an operation that kept this, and others, differs from the one after these
   -- others alone.
   abbrev pub LeavesGap : Op → Undo → List Op → Crossing Gap Undo → Type 0
   LeavesGap a u x crossing.Idle =

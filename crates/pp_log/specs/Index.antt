@@ -41,7 +41,7 @@ abbrev pub IsNewId : ℕ → List ℕ → Type 0
 IsNewId id [] = Unit {0}
 IsNewId id (i ∷ ids) = (id ≡ i → ⊥) × IsNewId id ids
 
--- Each id stands once.
+-- Each id occurs once.
 abbrev pub StandOnce : List ℕ → Type 0
 StandOnce [] = Unit {0}
 StandOnce (i ∷ ids) = IsNewId i ids × StandOnce ids
@@ -52,7 +52,7 @@ pub record IsSameTable (old new : IdTable) : Type 0 where
   pub serial_of : HasSameValues old.serial_of new.serial_of
   pub next : new.next ≡ old.next
 
--- The index is of the same entries, whose ids stand once each.
+-- The index is of the same entries, and each of their ids occurs once.
 abbrev pub IsSameIndex : Index → Index → Type 0
 IsSameIndex old new = (ids : List ℕ) → StandOnce ids → IsIndexOf old ids → IsIndexOf new ids
 

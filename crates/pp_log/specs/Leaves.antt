@@ -13,7 +13,7 @@ use Rattle.pp_log.specs.Parts.{there}
 use Rattle.pp_log.specs.Room.{ids_of}
 use Rattle.pp_log.specs.TakesOut.{itself}
 
--- The item stands at the i-th position, and lets those of its place behind it pass.
+-- The item is at the i-th position, and those of its place after it may move past it.
 pub record MayPassOut {Shape State Op Undo : Type 0} (o : Object Shape State Op Undo)
     (place : Op → ℕ) (log : List (Item Op)) (i : ℕ) (e : Item Op) : Type 0 where
   pub is : slice_get log i ≡ Some e
@@ -49,7 +49,7 @@ AllLeave {Shape} {State} {Op} o place own s ps ids t qs js =
     (log : List (Item Op)) → KeepsAll o place s log ps ids → MayLeave o own log
     → KeepsAll o place t (without_items itself own log) qs js × (o.shape t ≡ o.shape s)
 
--- The items stand in the list in their order, the first of them at this position.
+-- The items are in the list in their order, the first of them at this position.
 pub record StandFrom {Op : Type 0} (own log : List (Item Op)) (from : ℕ) : Type 0 where
   pub stand : (p : Item Op) → In p own → In p log
   pub order : (p q : Item Op) → Before p q own → Before p q log
@@ -58,7 +58,7 @@ pub record StandFrom {Op : Type 0} (own log : List (Item Op)) (from : ℕ) : Typ
   pub first_own : slice_get own 0 ≡ Some first
   pub first_there : slice_get log from ≡ Some first
 
--- The items stand in the list in their order, and the index is of its ids.
+-- The items are in the list in their order, and the index is of its ids.
 pub record CanLeaveOut {Op : Type 0} (own log : List (Item Op)) (ids : Index) : Type 0 where
   pub stand : (p : Item Op) → In p own → In p log
   pub order : (p q : Item Op) → Before p q own → Before p q log

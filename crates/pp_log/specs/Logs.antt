@@ -12,7 +12,7 @@ use Rattle.pp_log.specs.declared.place.Removed.TheVariants.{Done, Differs}
 abbrev pub entry_ops : {Op E : Type 0} → (E → Item Op) → List E → List Op
 entry_ops item_of log = map (λ e. (item_of e).op) log
 
--- The list of operations is allowed with one more behind it.
+-- The list of operations is allowed with one more after it.
 abbrev pub GoesBehind :
     {Shape State Op Undo : Type 0} → Object Shape State Op Undo → Shape → List Op → Op → Type 0
 GoesBehind o shape ops op = IsAllowed o shape (ops ++ op ∷ [])
@@ -31,7 +31,7 @@ HasItemAt {Op} {E} item_of log i entry =
 abbrev pub IsOn : {Op E : Type 0} → (Op → ℕ) → (E → Item Op) → ℕ → E → Type 0
 IsOn place_of item_of place entry = place_of (item_of entry).op ≡ place
 
--- The k-th entry is the first one at `from` or behind it of which this holds.
+-- The k-th entry is the first one at `from` or after it for which this is true.
 pub record IsFirstFrom {E : Type 0} (Holds : E → Type 0) (log : List E) (from k : ℕ) : Type 0 where
   pub entry : E
   pub is : slice_get log k ≡ Some entry
@@ -39,13 +39,13 @@ pub record IsFirstFrom {E : Type 0} (Holds : E → Type 0) (log : List E) (from 
   pub holds : Holds entry
   pub first : (j : ℕ) (e : E) → from ≤ j → j < k → slice_get log j ≡ Some e → Holds e → ⊥
 
--- It holds of no entry at `from` or behind it.
+-- It is true for no entry at `from` or after it.
 abbrev pub NoneFrom : {E : Type 0} → (E → Type 0) → List E → ℕ → Type 0
 NoneFrom {E} Holds log from =
     (j : ℕ) (e : E) → from ≤ j → slice_get log j ≡ Some e → Holds e → ⊥
 
--- From the state b on, the first entry that is not legal where it stands has this id, and this is
--- the object's result there.
+-- From the state b on, the first entry that is not legal where it is has this id, and this is the
+-- object's result there.
 pub record DiffersFrom {Shape State Op Undo E : Type 0} (o : Object Shape State Op Undo)
     (item_of : E → Item Op) (b : State) (log : List E) (id : ℕ) (answer : Answer) : Type 0 where
   pub before : List E
@@ -69,7 +69,7 @@ abbrev pub AreAllowed :
     Shape → List E → Type 0
 AreAllowed o item_of shape log = IsAllowed o shape (entry_ops item_of log)
 
--- What taking the i-th entry out of a log answers, and the log that it leaves.
+-- What taking the i-th entry out of a log returns, and the log that it leaves.
 abbrev pub RemovesEntry :
     {Shape State Op Undo E : Type 0} → Object Shape State Op Undo → (E → Item Op) →
     Shape × List E → ℕ → Shape × List E → Removed → Type 0
@@ -78,15 +78,15 @@ RemovesEntry o item_of old i new Done =
 RemovesEntry o item_of old i new (Differs id answer) =
     (new ≡ old) × DiffersFirst o item_of old.0 (remove old.1 i) id answer
 
--- How many operations from the i-th on have its place, itself counted; 1 where there is no such
+-- How many operations from the i-th on have its place, itself counted; 1 if there is no such
 -- operation.
 abbrev pub from_place : {Op : Type 0} → (Op → ℕ) → List Op → ℕ → ℕ
 from_place place [] i = 1
 from_place place (a ∷ x) zero = length (filter (λ b. place b == place a) (a ∷ x))
 from_place place (a ∷ x) (suc i) = from_place place x i
 
--- How many ticks a removal may take where k operations of the place, the removed one counted, stand
--- from it to the end: where it is the last one, it alone is taken back.
+-- How many ticks a removal may take where k operations of the place, the removed one counted, are
+-- from it to the end: if it is the last one, it alone is taken back.
 abbrev pub removal_ticks : Removed → ℕ → ℕ → ℕ → Type 0
 removal_ticks Done k old new =
     (old ≤ new) × (new + 1 ≤ old + 2 * k) × (k ≡ 1 → new ≡ old + 1)
@@ -98,6 +98,6 @@ abbrev pub RemovalCosts :
 RemovalCosts place ops i result old new =
     IfOk result (λ r. removal_ticks r.1 (from_place place ops i) old new)
 
--- The most ticks of such a removal, whatever it answers. None is taken back.
+-- The most ticks of such a removal, whatever it returns. None is taken back.
 abbrev pub RemovalBound : {Op : Type 0} → (Op → ℕ) → List Op → ℕ → ℕ → ℕ → Type 0
 RemovalBound place ops i old new = (old ≤ new) × (new + 3 ≤ old + 4 * from_place place ops i)

@@ -8,7 +8,7 @@ use Rattle.pp_log.specs.declared.place.Place.{Place}
 abbrev pub ids_of : {Op : Type 0} → List (Item Op) → List ℕ
 ids_of x = map (λ e. e.id) x
 
--- A place has the same ids and undo values, and none where it is a new place.
+-- A place has the same ids and undo values, and none if it is a new place.
 abbrev pub SameIn : {Undo : Type 0} → Option (Place Undo) → Option (Place Undo) → Type 0
 SameIn None None = Unit {0}
 SameIn None (Some q) = (q.ids.items ≡ []) × (q.undos.items ≡ [])
@@ -24,6 +24,6 @@ pub record HasRoom {Undo : Type 0} (q : Place Undo) : Type 0 where
   pub ids : vec_len q.ids < vec_capacity q.ids
   pub undos : vec_len q.undos < vec_capacity q.undos
 
--- There is room for one more entry at the p-th place, where there is such a place.
+-- There is room for one more entry at the p-th place, if there is such a place.
 abbrev pub HasRoomAt : {Undo : Type 0} → List (Place Undo) → ℕ → Type 0
 HasRoomAt {Undo} places p = (q : Place Undo) → slice_get places p ≡ Some q → HasRoom q

@@ -35,7 +35,7 @@ pub record IsRun {Shape State Op Undo : Type 0} (o : Object Shape State Op Undo)
   pub is : s ≡ state_from o b (take (length us) (ops items))
   pub kept : us ≡ kept_along o b (take (length us) (ops items))
 
--- All items were applied, or the next one differs, since the object gives this answer.
+-- All items were applied, or the next one differs, since the object returns this result.
 abbrev pub Stops :
     {Shape State Op Undo : Type 0} → Object Shape State Op Undo →
     List (Item Op) → List Undo → State → Option Answer → Type 0
@@ -53,8 +53,8 @@ Costs (Some answer) old from to new = new + from ≡ old + to + 1
 abbrev pub answer_at : Option Stop → Option Answer
 answer_at stop = option_map (λ s. s.answer) stop
 
--- They stop at an entry of the place. All before it that have the place were applied, behind others,
--- `from` in number.
+-- They stop at an entry of the place. All entries of the place before it were applied, after `from`
+-- others.
 pub record IsStop {Op E : Type 0} (place : Op → ℕ) (item_of : E → Item Op) (p : ℕ)
     (entries : List E) (at from : ℕ) {Undo : Type 0} (us : List Undo) : Type 0 where
   pub within : at < length entries
@@ -78,7 +78,7 @@ GoesOn {Shape} {State} {Op} o from items old s new t =
     (b : State) (before : List (Item Op)) → length before ≡ from
     → IsRun o b (before ++ items) old s → IsRun o b (before ++ items) new t
 
--- Behind any items, `from` in number, the run of these stops so.
+-- After any `from` items, the run of these stops like this.
 abbrev pub StopsFrom :
     {Shape State Op Undo : Type 0} → Object Shape State Op Undo → ℕ →
     List (Item Op) → List Undo → State → Option Answer → Type 0

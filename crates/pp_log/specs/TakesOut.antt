@@ -26,7 +26,7 @@ pub record HasWhole {Shape State Op Undo : Type 0} (o : Object Shape State Op Un
   pub size : length before ≡ from
   pub whole : IsWhole o start (before ++ items) q s
 
--- The i-th item has this operation, which lets those behind it pass, and these are z.
+-- The i-th item has this operation, which those after it may move past, and these are z.
 pub record Passes {Shape State Op Undo : Type 0} (o : Object Shape State Op Undo)
     (items : List (Item Op)) (i : ℕ) (a : Op) (z : List (Item Op)) : Type 0 where
   pub item : Item Op
@@ -35,8 +35,7 @@ pub record Passes {Shape State Op Undo : Type 0} (o : Object Shape State Op Undo
   pub others : drop (i + 1) items ≡ z
   pub behind : LetsPass o a (ops z)
 
--- All items of a place are applied, and the i-th one lets those behind it pass, which have its
--- place.
+-- All items of a place are applied. Those after the i-th one have its place and may move past it.
 pub record CanPassOut {Shape State Op Undo : Type 0} (o : Object Shape State Op Undo)
     (place : Op → ℕ) (q : Place Undo) (s : State) (i : ℕ) (a : Op) : Type 0 where
   pub start : State
@@ -67,8 +66,8 @@ TakesOutOf {Shape} {State} {Op} o from items old s new t removed =
     (b : State) (before : List (Item Op)) → length before ≡ from
     → IsWhole o b (before ++ items) old s → TakesOut o b (before ++ items) from new t removed
 
--- What taking the i-th item out leaves, where it has this operation and lets those behind it pass,
--- which have its place.
+-- What taking the i-th item out leaves if it has this operation and those after it, which have its
+-- place, may move past it.
 abbrev pub PassesOutOf :
     {Shape State Op Undo : Type 0} → Object Shape State Op Undo → (Op → ℕ) → ℕ → Op →
     Place Undo → State → Place Undo → State → Type 0

@@ -51,9 +51,9 @@ fn forget_all<S: Spec>(batch: &[Item<S::Op>], ids: &mut Index, ids_there: &mut V
     }
 }
 
-/// Takes items of one place back, each of which lets the others behind it pass. They are carried
-/// behind these in one walk, unless none of them keeps anything in turn with others: then what takes
-/// each back is taken out where it stands. What is kept is then of the others.
+/// Takes items of one place back. The others after each may move past it. They are carried after
+/// these in one walk, unless none of them exchanges undo values with others: then each undo value
+/// is taken out at its position. What is kept is then of the others.
 fn take_batch_back<S: TakesBack, L: Ledger>(
     batch: &[Item<S::Op>],
     ids: &mut Index,
@@ -91,8 +91,8 @@ fn take_batch_back<S: TakesBack, L: Ledger>(
     Ok(())
 }
 
-/// Takes items back, the last ones that have one place together, and then those before them. Each
-/// lets the others behind it pass. What is kept is then of the others.
+/// Takes items back: the last ones that have one place together, and then those before them. The
+/// others after each may move past it. What is kept is then of the others.
 pub fn take_all_back<S: TakesBack, L: Ledger>(
     own: &[Item<S::Op>],
     ids: &mut Index,

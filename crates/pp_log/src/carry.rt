@@ -1,4 +1,4 @@
-//! What takes an operation back, carried behind the operations that it lets pass.
+//! What takes an operation back, carried after the operations that may move past it.
 ghost use Rattle.std.specs.Prelude.{◌≡◌, ◌<◌, ◌≤◌, ◌+◌, IsTrue, false, length};
 ghost use Rattle.pp_log.specs.Batches.{CanGather, CarriesAllOver, Gathers};
 ghost use Rattle.pp_log.specs.Carries.{CarriesOut, CarriesOver};
@@ -7,9 +7,9 @@ ghost use Rattle.pp_log.specs.Leaves.{HasIdAt};
 use pp_core::Item;
 use pp_kind::TakesBack;
 
-/// Carries an operation behind the next one of its place. What takes it back stands at a position,
-/// and what takes the other one back stands behind that. Where the two keep in turn, both values
-/// stay, and else they are exchanged.
+/// Carries an operation after the next one of its place. Its undo value is at a position, and the
+/// undo value of the other one is right after that. If the two keep in turn, both values stay;
+/// otherwise they are exchanged.
 fn carry_over<S: TakesBack>(op: &S::Op, undos: &mut Vec<S::Undo>, at: usize)
     requires { at + 1 < length undos.old.items }
     ensures size { length undos.new.items ≡ length undos.old.items }
@@ -21,8 +21,8 @@ fn carry_over<S: TakesBack>(op: &S::Op, undos: &mut Vec<S::Undo>, at: usize)
     }
 }
 
-/// Carries the operation whose undo value stands at `from` behind all of its place that stand behind
-/// it, and takes its undo value out there.
+/// Carries the operation whose undo value is at `from` after all of its place that are after it,
+/// and takes its undo value out there.
 pub fn carry_out<S: TakesBack>(op: &S::Op, undos: &mut Vec<S::Undo>, from: usize) -> S::Undo
     requires { from < length undos.old.items }
     ensures { CarriesOut S.object S.place_of op.now from undos.old.items undos.new.items result }
@@ -39,8 +39,8 @@ pub fn carry_out<S: TakesBack>(op: &S::Op, undos: &mut Vec<S::Undo>, from: usize
     undo
 }
 
-/// Carries a batch of operations, whose undo values stand together right before a position, behind
-/// the one that stands there.
+/// Carries a batch of operations, whose undo values are together right before a position, after the
+/// one that is there.
 fn carry_all_over<S: TakesBack>(batch: &[Item<S::Op>], undos: &mut Vec<S::Undo>, at: usize)
     requires before { length batch.now ≤ at }
     requires within { at < length undos.old.items }
@@ -64,8 +64,8 @@ pub fn has_id_at<O: Copy>(items: &[Item<O>], at: usize, id: u32) -> bool
     at < items.len() && items[at].id == id
 }
 
-/// Carries a batch of operations of a place behind all others there, in one walk over these. The
-/// undo value of the first of them stands at `from`.
+/// Carries a batch of operations of a place after all others there, in one walk over these. The
+/// undo value of the first of them is at `from`.
 pub fn gather<S: TakesBack>(
     batch: &[Item<S::Op>],
     ids: &[u32],

@@ -1,5 +1,5 @@
-//! The entries of a log. Where one leaves, those behind it or those before it move, whichever are
-//! fewer. A `VecDeque` does so too, but does not promise that all stand in one slice.
+//! The entries of a log. If one leaves, those after it or those before it move, whichever are
+//! fewer. A `VecDeque` does so too, but does not promise that all are in one slice.
 ghost use Rattle.std.specs.Prelude.{◌≡◌, ◌<◌, ◌≤◌, ◌+◌, ◌++◌, ◌∷◌, [], OnOk};
 ghost use Rattle.std.specs.Prelude.{drop, length, remove, slice_set, take};
 
@@ -7,9 +7,9 @@ use pp_core::OutOfMemory;
 use std::alloc::Global;
 use std::marker::Model;
 
-/// A list, which stands in a vector behind places that it has given up. Where one is taken out, those
-/// behind it move one place towards the start, or, where fewer stand before it, these move one place
-/// towards the end. Contracts see the list, and for how many more there is room.
+/// A list, which is in a vector after places that it has given up. If one is taken out, those after
+/// it move one place towards the start, or, if fewer are before it, these move one place towards
+/// the end. Contracts see the list, and for how many more there is room.
 #[derive(Drop)]
 pub struct Entries<E: Copy> {
     all: Vec<E>,
@@ -67,8 +67,8 @@ impl<E: Copy> Entries<E> {
         self.front = 0;
     }
 
-    /// Makes room for one more. Where more places are given up than there are elements, the list moves
-    /// to the start of the vector first. The only error is that memory was refused.
+    /// Makes room for one more. If more places are given up than there are elements, the list moves
+    /// to the start of the vector first. The only error is out of memory.
     pub fn reserve(&mut self) -> Result<(), OutOfMemory>
         ensures items { self.new.items ≡ self.old.items }
         ensures room { OnOk result (0 < self.new.room) }

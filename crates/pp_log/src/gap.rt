@@ -1,4 +1,4 @@
-//! The gap that an operation leaves where it is left out, carried over those behind it.
+//! The gap that an operation leaves where it is left out, carried over those after it.
 ghost use Rattle.pp_log.specs.Gaps.{CrossesAll, LeavesGap};
 ghost use Rattle.pp_log.specs.Parts.{items_on};
 ghost use Rattle.pp_model.specs.Object.{ops};
@@ -6,14 +6,14 @@ ghost use Rattle.pp_model.specs.Object.{ops};
 use crate::sides::Side;
 use pp_kind::{Crossed, Gapped, Left, Placed};
 
-/// How the state behind some operations differs from the one that would be there without an
+/// How the state after some operations differs from the one that would be there without an
 /// operation before them.
 #[derive(Drop)]
 pub enum Crossing<G, U> {
     /// Not at all: the operation before them changes nothing, and they are allowed without it.
     Idle,
-    /// By this gap. Where the state bears it, they are allowed without the operation before them,
-    /// and each of them keeps the same.
+    /// By this gap. If the state bears it, they are allowed without the operation before them, and
+    /// each of them keeps the same.
     Apart(G),
     /// Not at all. They are allowed without the operation before them; the one at this position
     /// among them then keeps this, and each of the others the same.
@@ -47,8 +47,8 @@ fn cross_all<S: Placed + Gapped, T: Side<S::Op>>(
     Crossing::Apart(gap)
 }
 
-/// The gap that an operation which kept this leaves behind the operations of its place among these
-/// entries, which stand behind it.
+/// The gap that an operation which kept this leaves after the operations of its place among these
+/// entries, which are after it.
 pub fn gap_behind<S: Placed + Gapped, T: Side<S::Op>>(
     op: &S::Op,
     undo: &S::Undo,

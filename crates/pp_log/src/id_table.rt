@@ -1,4 +1,4 @@
-//! Where each id stands in a log of many entries.
+//! The position of each id in a log of many entries.
 ghost use Rattle.std.specs.Prelude.{◌≡◌, ◌<◌, ℕ, nat_eq, List, [], ◌∷◌, ◌++◌, IfOk, OnOk, Some};
 ghost use Rattle.std.specs.Prelude.{length, position, remove, slice_get};
 ghost use Rattle.pp_log.specs.Index.{HasTableRoom, IsNewId, IsSameTable, IsTableOf, StandOnce};
@@ -32,8 +32,8 @@ impl IdTable {
         Ok(table)
     }
 
-    /// Where the entry with this id stands: at its number where none before it was taken out, and
-    /// else where a search by halves finds the number.
+    /// The position of the entry with this id: its number if none before it was taken out, and
+    /// otherwise where a search by halves finds the number.
     pub fn find(&self, id: u32) -> Option<usize>
         ensures { (ids : List ℕ) → IsTableOf self.now ids → result ≡ position (nat_eq id) ids }
     {
@@ -71,7 +71,7 @@ impl IdTable {
         self.next += 1;
     }
 
-    /// Takes the entry out that stands at a position and has this id. The last one's number is free
+    /// Takes the entry out that is at a position and has this id. The last one's number is free
     /// again.
     pub fn remove(&mut self, i: usize, id: u32)
         requires { i < length self.old.serials.items }

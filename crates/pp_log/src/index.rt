@@ -1,4 +1,4 @@
-//! Where each id stands in a log.
+//! The position of each id in a log.
 ghost use Rattle.std.specs.Prelude.{◌≡◌, ◌<◌, ℕ, nat_eq, List, [], ◌∷◌, ◌++◌, OnOk, Some};
 ghost use Rattle.std.specs.Prelude.{position, remove, slice_get};
 ghost use Rattle.pp_log.specs.Index.{HasIndexRoom, IsIndexOf, IsNewId, IsSameIndex, StandOnce};
@@ -19,7 +19,7 @@ pub enum Index {
     Many(IdTable),
 }
 
-/// Where this id stands among a few.
+/// The position of this id among a few.
 fn look_for(ids: &[u32], id: u32) -> Option<usize>
     ensures { result ≡ position (nat_eq id) ids.now }
 {
@@ -34,7 +34,7 @@ impl Index {
         Index::Few(ArrayVec::new())
     }
 
-    /// Where the entry with this id stands.
+    /// The position of the entry with this id.
     pub fn find(&self, id: u32) -> Option<usize>
         ensures { (ids : List ℕ) → IsIndexOf self.now ids → result ≡ position (nat_eq id) ids }
     {
@@ -74,7 +74,7 @@ impl Index {
         }
     }
 
-    /// Takes the entry out that stands at a position and has this id.
+    /// Takes the entry out that is at a position and has this id.
     pub fn remove(&mut self, i: usize, id: u32)
         requires { i < index_len self.old }
         ensures { (ids : List ℕ) → IsIndexOf self.old ids → StandOnce ids

@@ -15,8 +15,8 @@ use pp_core::{Item, OutOfMemory, Ticks};
 use pp_kind::TakesBack;
 use std::sync::ledger::Ledger;
 
-/// Takes the entry with this operation that stands at `from` out of its place, as if it were the
-/// last one there, where it lets those behind it pass.
+/// Takes the entry with this operation, at `from`, out of its place, as if it were the last one
+/// there. Those after it may move past it.
 fn pass_out<S: TakesBack, L: Ledger>(
     place: &mut Place<S::Undo>,
     from: usize,
@@ -35,8 +35,8 @@ fn pass_out<S: TakesBack, L: Ledger>(
     Ok(())
 }
 
-/// Takes an item that stands at a position of the log back, which lets those of its place behind it
-/// pass. What is kept of it goes.
+/// Takes an item at a position of the log back. Those of its place after it may move past it. Its
+/// undo value is dropped.
 fn take_one_back<S: TakesBack, L: Ledger>(
     item: &Item<S::Op>,
     i: usize,
@@ -60,8 +60,8 @@ fn take_one_back<S: TakesBack, L: Ledger>(
     Ok(())
 }
 
-/// Takes items back from the last to the first, each of which lets the others behind it pass. What
-/// is kept is then of the others.
+/// Takes items back from the last to the first. The others after each may move past it. What is
+/// kept is then of the others.
 pub fn take_each_back<S: TakesBack, L: Ledger>(
     own: &[Item<S::Op>],
     ids: &mut Index,
@@ -96,8 +96,8 @@ fn is_next<O: Copy, T: Side<O>>(entry: &T::Entry, own: &[Item<O>], next: usize) 
     has_id_at(own, next, T::item(entry).id)
 }
 
-/// Leaves out the entries that are these items, which stand in their order, the first of them at a
-/// position. Those that stay behind it move up, each once.
+/// Leaves out the entries that are these items, which are in their order, the first of them at a
+/// position. Those that stay after it move up, each once.
 fn keep_others<O: Copy, T: Side<O>>(entries: &mut Entries<T::Entry>, own: &[Item<O>], from: usize)
     requires { StandFrom own.now (map T.item_of entries.old.items) from }
     ensures { entries.new.items ≡ without_items T.item_of own.now entries.old.items }
@@ -116,7 +116,7 @@ fn keep_others<O: Copy, T: Side<O>>(entries: &mut Entries<T::Entry>, own: &[Item
     entries.truncate(kept);
 }
 
-/// Takes out the entries that are these items, which stand in their order, one after another, from
+/// Takes out the entries that are these items, which are in their order, one after another, from
 /// the last to the first. At each the fewer others move.
 fn take_each_out<O: Copy, T: Side<O>>(entries: &mut Entries<T::Entry>, ids: &Index, own: &[Item<O>])
     requires { CanLeaveOut own.now (map T.item_of entries.old.items) ids.now }
@@ -126,7 +126,7 @@ fn take_each_out<O: Copy, T: Side<O>>(entries: &mut Entries<T::Entry>, ids: &Ind
     while rest > 0 {
         rest -= 1;
         let item = &own[rest];
-        // It stands where it stood, since those that have left stood behind it.
+        // It has the position that it had, since those that have left were after it.
         let Some(i) = ids.find(item.id) else {
             unreachable!()
         };
@@ -134,15 +134,15 @@ fn take_each_out<O: Copy, T: Side<O>>(entries: &mut Entries<T::Entry>, ids: &Ind
     }
 }
 
-/// Whether each of these items stands so near the front that to move all before it, one item after
-/// another, surely moves no more than those behind the first. Nothing is promised of it.
+/// Whether each of these items is so near the front that to move all before it, one item after
+/// another, surely moves no more than those after the first. Nothing is promised of it.
 fn stand_in_front<O: Copy>(own: &[Item<O>], ids: &Index, from: usize, len: usize) -> bool {
     own.last().and_then(|item| ids.find(item.id)).is_some_and(|to| own.len().saturating_mul(to)
         < len.saturating_sub(from))
 }
 
-/// Leaves out the entries that are these items, which stand in their order. It looks at none before
-/// the first of them, or moves no more than stand from it on.
+/// Leaves out the entries that are these items, which are in their order. It looks at none before
+/// the first of them, or moves no more than are from it on.
 pub fn leave_out<O: Copy, T: Side<O>>(entries: &mut Entries<T::Entry>, ids: &Index, own: &[Item<O>])
     requires { CanLeaveOut own.now (map T.item_of entries.old.items) ids.now }
     ensures { entries.new.items ≡ without_items T.item_of own.now entries.old.items }

@@ -48,7 +48,7 @@ impl<S: Placed + Gapped, T: Side<S::Op>> Model for Log<S, T> {
 }
 
 impl<S: Placed + Gapped, T: Side<S::Op>> Log<S, T> {
-    /// The empty log. The only error is that memory was refused.
+    /// The empty log. The only error is out of memory.
     pub fn new(alloc: Global, shape: &S::Shape) -> Result<Self, OutOfMemory>
         ensures { IfOk result (λ log. log ≡ (shape.now, [])) }
     {
@@ -87,15 +87,15 @@ impl<S: Placed + Gapped, T: Side<S::Op>> Log<S, T> {
         self.entries.as_slice()
     }
 
-    /// Where the entry with this id stands. It looks through at most sixteen ids, and asks a table
-    /// where there are more.
+    /// The position of the entry with this id. It looks through at most sixteen ids, and uses a
+    /// table if there are more.
     pub fn find(&self, id: u32) -> Option<usize>
         ensures { result ≡ position (λ e. (T.item_of e).id == id) self.now.1 }
     {
         self.ids.find(id)
     }
 
-    /// The first position at `from` or behind it whose operation has this place. It halves over the
+    /// The first position at `from` or after it whose operation has this place. It halves over the
     /// ids of the place, and takes no memory.
     pub fn next_on(&self, place: u16, from: usize) -> Option<usize>
         ensures found { IfSome result
@@ -120,7 +120,7 @@ impl<S: Placed + Gapped, T: Side<S::Op>> Log<S, T> {
         self.find(*next)
     }
 
-    /// The objects behind all entries.
+    /// The objects after all entries.
     pub fn state(&self) -> &S::State
         ensures shape { S.object.shape result.now ≡ self.now.0 }
         ensures log { IsLog S.object result.now (entry_ops T.item_of self.now.1) }
@@ -128,8 +128,8 @@ impl<S: Placed + Gapped, T: Side<S::Op>> Log<S, T> {
         &self.state
     }
 
-    /// Adds an entry at the end, which keeps the log allowed. The only error is that memory was
-    /// refused, and the log is then as it was.
+    /// Adds an entry at the end, which keeps the log allowed. The only error is out of memory, and
+    /// the log is then as it was.
     pub fn append<L: Ledger>(
         &mut self,
         entry: T::Entry,
@@ -174,10 +174,10 @@ impl<S: Placed + Gapped, T: Side<S::Op>> Log<S, T> {
         self.entries.set(i, entry);
     }
 
-    /// Takes out the i-th entry. Where it is the last of its place, it alone is taken back; where the
-    /// gap that it leaves is known behind the later ones and borne, at most that gap is closed; else
-    /// they are taken back with it, and applied again. Where one of them differs, all is put back.
-    /// The only error is that memory was refused, and the log is then lost.
+    /// Takes out the i-th entry. If it is the last of its place, it alone is taken back. If the gap
+    /// that it leaves is known after the later ones and borne, at most that gap is closed.
+    /// Otherwise they are taken back with it and applied again. If one of them differs, all is put
+    /// back. The only error is out of memory, and the log is then lost.
     pub fn remove<L: Ledger>(
         self,
         i: usize,
@@ -220,9 +220,9 @@ impl<S: Placed + Gapped, T: Side<S::Op>> Log<S, T> {
 }
 
 impl<S: TakesBack + Gapped, T: Side<S::Op>> Log<S, T> {
-    /// Takes entries out, from the last to the first, each of which lets those of others behind it
-    /// pass: each of them alone is taken back. The only error is that memory was refused, and the
-    /// log is then lost.
+    /// Takes entries out, from the last to the first. The entries of others after each may move
+    /// past it, so each of them alone is taken back. The only error is out of memory, and the log
+    /// is then lost.
     pub fn take_back<L: Ledger>(
         self,
         own: &[Item<S::Op>],

@@ -1,4 +1,4 @@
-//! What a log keeps of one place, and what a removal answers.
+//! What a log keeps of one place, and what a removal returns.
 ghost use Rattle.std.specs.Prelude.{◌≡◌, ◌<◌, List, [], ◌∷◌, ◌++◌, length, remove};
 ghost use Rattle.pp_log.specs.Room.{HasRoom};
 
@@ -9,13 +9,14 @@ use pp_core::Answer;
 pub enum Removed {
     /// The entry is out, and the list without it is allowed.
     Done,
-    /// The log is as it was. In the list without the entry, the first entry whose recorded result
-    /// the object does not give has this id, and the object gives this answer there.
+    /// The log is as it was. In the list without the entry, this id is that of the first entry
+    /// whose recorded result the object does not return, and this is the result that it returns
+    /// there.
     Differs { entry: u32, answer: Answer },
 }
 
 /// The ids of the entries of one place, in order, and what the operation of each left to take it
-/// back. The operations stand in the entries.
+/// back. The operations are in the entries.
 #[derive(Drop)]
 pub struct Place<U: Drop> {
     pub ids: Vec<u32>,
@@ -37,7 +38,7 @@ impl<U: Drop> Place<U> {
         };
     }
 
-    /// Takes out the id that stands at a position, and what stands there beside it.
+    /// Takes out the id at a position, and what is kept with it.
     pub fn forget(&mut self, from: usize)
         requires id { from < length self.old.ids.items }
         requires undo { from < length self.old.undos.items }

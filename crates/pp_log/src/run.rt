@@ -11,14 +11,14 @@ use std::sync::ledger::Ledger;
 /// Where operations cannot be applied again.
 #[derive(Clone, Copy)]
 pub struct Stop {
-    /// The position of the first entry whose recorded result the object does not give.
+    /// The position of the first entry whose recorded result the object does not return.
     pub at: usize,
-    /// What it gives.
+    /// What it returns.
     pub answer: Answer,
 }
 
 /// Takes the operations of a place among these entries back, which were all applied, the last one
-/// first. What takes the first of them back stands at `from` there.
+/// first. What takes the first of them back is at `from` there.
 pub fn unwind<S: Placed, T: Side<S::Op>, L: Ledger>(
     entries: &[T::Entry],
     place: u16,

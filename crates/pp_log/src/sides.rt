@@ -64,7 +64,7 @@ impl<O: Copy> Side<O> for SharedSide {
     }
 }
 
-/// The side of items, which stand in no log.
+/// The side of items, which are in no log.
 #[derive(Drop)]
 pub struct ItemSide;
 

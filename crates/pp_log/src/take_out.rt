@@ -16,7 +16,7 @@ use pp_core::{OutOfMemory, Ticks};
 use pp_kind::{Gapped, Placed};
 use std::sync::ledger::Ledger;
 
-/// Where this id stands last.
+/// The last position of this id.
 fn last_with(ids: &[u32], id: u32) -> Option<usize>
     ensures found { IfSome result (λ k. slice_get ids.now k ≡ Some id) }
     ensures none { IfNone result (In id ids.now → ⊥) }
@@ -29,8 +29,8 @@ fn last_with(ids: &[u32], id: u32) -> Option<usize>
     None
 }
 
-/// Where the id of the entry at a position should stand among those of its place, as the index says
-/// where their entries stand. It looks at the last one, and else halves over them. Nothing is
+/// The position that the id of an entry should have among those of its place, by the positions of
+/// their entries in the index. It looks at the last one, and else halves over them. Nothing is
 /// promised of it.
 fn likely_position(ids: &[u32], index: &Index, i: usize, id: u32) -> usize {
     let mut high = ids.len().saturating_sub(1);
@@ -48,8 +48,8 @@ fn likely_position(ids: &[u32], index: &Index, i: usize, id: u32) -> usize {
     low
 }
 
-/// Where the id of the entry at a position stands among those of its place. It looks first where it
-/// should stand, and at all of them only where it does not.
+/// The position of an entry's id among those of its place. It looks first where it should be, and
+/// at all of them only if it is not there.
 pub fn position_in_place(ids: &[u32], index: &Index, i: usize, id: u32) -> Option<usize>
     ensures found { IfSome result (λ k. slice_get ids.now k ≡ Some id) }
     ensures none { IfNone result (In id ids.now → ⊥) }
@@ -83,9 +83,9 @@ fn take_last<S: Placed, L: Ledger>(
     Ok(())
 }
 
-/// Takes the first of these entries, which stands at `from` in its place with others behind it,
-/// out of that place, where the gap that it leaves is known behind these, and borne. Else all
-/// stays, and it answers false. Only closing a gap ticks.
+/// Takes the first of these entries out of its place, where it is at `from` with others after it,
+/// if the gap that it leaves is known after these, and borne. Otherwise all stays, and it returns
+/// false. Only closing a gap ticks.
 fn leave_by_gap<S: Placed + Gapped, T: Side<S::Op>, L: Ledger>(
     place: &mut Place<S::Undo>,
     from: usize,
@@ -127,10 +127,10 @@ fn leave_by_gap<S: Placed + Gapped, T: Side<S::Op>, L: Ledger>(
     }
 }
 
-/// Takes the first of these entries, which stands at `from` in its place, out of that place. Where
-/// it is the last one there, it alone is taken back. Else the gap that it leaves is closed; where
-/// that is not known or not borne, those behind it are taken back too, and applied again without it;
-/// where one of them differs, the place is as it was.
+/// Takes the first of these entries out of its place, where it is at `from`. If it is the last one
+/// there, it alone is taken back. Otherwise the gap that it leaves is closed. If that is not known
+/// or not borne, those after it are taken back too, and applied again without it. If one of them
+/// differs, the place is as it was.
 pub fn take_out<S: Placed + Gapped, T: Side<S::Op>, L: Ledger>(
     place: &mut Place<S::Undo>,
     from: usize,
@@ -161,9 +161,8 @@ pub fn take_out<S: Placed + Gapped, T: Side<S::Op>, L: Ledger>(
     replay::<S, T, L>(place, from, entries, state, ticks)
 }
 
-/// Takes the operation of the first of these entries, which stands at `from` in its place, out of
-/// it, and those behind it there back, which are then applied again. Where one differs, the place is
-/// as it was.
+/// Takes the operation of the first of these entries out of its place, where it is at `from`, and
+/// takes those after it there back and applies them again. If one differs, the place is as it was.
 fn replay<S: Placed, T: Side<S::Op>, L: Ledger>(
     place: &mut Place<S::Undo>,
     from: usize,

@@ -24,7 +24,7 @@ use Rattle.pp_log_local.specs.Known.{NoneUnpushedBut}
 none_plus : (n : ℕ) → n ≡ 0 + n
 none_plus n = omega arith
 
--- How many entries are own: the first, and those behind it.
+-- How many entries are own: the first, and those after it.
 counted_head : {Op : Type 0} (e : LocalEntry Op) (x : List (LocalEntry Op)) (b : Bool) → length (cond b (e ∷ own x) (own x)) ≡ length (cond b (e ∷ []) []) + length (own x)
 counted_head e x true = one_plus (length (own x))
   where
@@ -122,7 +122,7 @@ behind_stays (a ∷ x) (suc i) zero h = absurd (omega arith)
 behind_stays (a ∷ x) (suc i) (suc j) h = behind_stays x i j (omega arith)
 
 module _ {Op : Type 0} (x : List (LocalEntry Op)) where
-  -- the frontiers, where nothing is said of an entry that was added
+  -- The frontiers if nothing is said of an entry that was added.
   added_at : (e : LocalEntry Op) (j : ℕ) (d : LocalEntry Op) → j ≢ length x → slice_get (x ++ e ∷ []) j ≡ Some d → slice_get x j ≡ Some d
   added_at e j d other at =
       let size = length_push x e in
@@ -247,7 +247,7 @@ pub other_mark : (b c : Bool) → b ≡ false → (b && c) ≡ false
 other_mark true c h = cc
 other_mark false c h = refl
 
--- the same, where each of its parts has another name
+-- The same, with other names for its parts.
 module _ {Shape State Op Undo : Type 0} (o : Object Shape State Op Undo) where
   -- All that is known of the own entries of a log is known under equal names of its parts.
   pub known_moved : (x y : List (LocalEntry Op)) (s t : SampleList Op) (n m from start to end : ℕ) → y ≡ x → t ≡ s → m ≡ n → start ≡ from → end ≡ to → KnowsOwn (Covers o s) x n from to → KnowsOwn (Covers o t) y m start end

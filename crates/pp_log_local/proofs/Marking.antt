@@ -38,6 +38,6 @@ seen_marked {Shape} {Op} m i log seen new d e is distinct at found set =
     ∙ ap (λ (z : List (LocalEntry Op)). pair log.0 z) (set_is_marked m log.1 i d distinct (sym at))
     ∙ ap (λ (b : LocalEntry Op). pair log.0 (set_mark b.id m log.1)) one)
 
--- and what stood there is seen there
+-- The entry at a position of a log is the entry there of an equal log.
 pub seen_there : {Shape Op : Type 0} (log seen : Shape × List (LocalEntry Op)) (i : ℕ) (d : LocalEntry Op) → log ≡ seen → Some d ≡ slice_get log.1 i → slice_get seen.1 i ≡ Some d
 seen_there {Shape} {Op} log seen i d is at = subst (λ (p : Shape × List (LocalEntry Op)). slice_get p.1 i ≡ Some d) is (sym at)

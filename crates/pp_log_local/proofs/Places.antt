@@ -1,4 +1,4 @@
--- Where a test first holds of a list, and of a part of it.
+-- The first position at which a test is true, in a list and in a part of it.
 use Rattle.std.proofs.Common.{◌≡◌, ℕ, zero, suc, ◌<◌, ◌≤◌, ◌+◌, ◌-◌, Bool, true, false, not, cond}
 use Rattle.std.proofs.Common.{nat_lt, List, [], ◌∷◌, length, take, drop, Option, Some, None}
 use Rattle.std.proofs.Common.{option_map, position, slice_get, refl, sym, ◌∙◌, ap, arith, inl, inr}
@@ -164,7 +164,7 @@ from_within p xs n k is =
     let there = r.2 in
     omega arith
 
--- and what stands there stands at its place in the rest
+-- An element that a search in the rest of a list finds is at its position in the rest.
 pub stands_from : {X : Type 0} (p : X → Bool) (xs : List X) (n k : ℕ) (x : X) → Some k ≡ option_map (λ j. n + j) (position p (drop n xs)) → slice_get xs k ≡ Some x → (j : ℕ) × (position p (drop n xs) ≡ Some j) × (slice_get (drop n xs) j ≡ Some x)
 stands_from {X} p xs n k x is at =
     let r = found_from p xs n k is in

@@ -1,4 +1,4 @@
--- What is looked for among the own entries of a local log, where it is known that it is not there.
+-- Searches among the own entries of a local log that find nothing.
 use Rattle.std.proofs.Common.{◌≡◌, ℕ, ◌<◌, ◌≤◌, ◌+◌, ◌-◌, true, false, List, take, drop, Option}
 use Rattle.std.proofs.Common.{Some, None, option_map, position, slice_get, sym, ◌∙◌, ap, subst}
 use Rattle.std.proofs.Common.{is_some, not, Bool, refl}
@@ -20,7 +20,7 @@ module _ {Shape State Op Undo : Type 0} (o : Object Shape State Op Undo) (C : Op
   not_staying : (j : ℕ) (e : LocalEntry Op) → to ≤ j → slice_get seen.1 j ≡ Some e → stays_behind o op e ≡ false
   not_staying j e le at = other_mark (is_mark e.mark Pushed) (is_some (o.refuting e.op op)) (known.pushed j e le (ap (λ (z : Shape × List (LocalEntry Op)). slice_get z.1 j) is ∙ at))
 
-  -- no such entry can stand in that part of the log
+  -- No such entry can be in that part of the log.
   pub none_held_before : (i : ℕ) → i ≤ from → None ≡ position (holds_back o op) (take i seen.1)
   none_held_before i le = none_before (holds_back o op) seen.1 from i le not_held
 
@@ -28,7 +28,7 @@ module _ {Shape State Op Undo : Type 0} (o : Object Shape State Op Undo) (C : Op
   pub none_staying_from : (i : ℕ) → to ≤ i → None ≡ option_map (λ k. i + k) (position (stays_behind o op) (drop i seen.1))
   none_staying_from i le = none_from (stays_behind o op) seen.1 i to le not_staying
 
-  -- the part of the log where one may stand has it, or none does
+  -- The search between two positions finds the first entry before the second that holds the operation back.
   pub held_between : (i : ℕ) (xs : List (LocalEntry Op)) (r : Option ℕ) → from ≤ i → xs ≡ seen.1 → r ≡ position (holds_back o op) (take (i - from) (drop from xs)) → option_map (λ k. from + k) r ≡ position (holds_back o op) (take i seen.1)
   held_between i xs r le list found =
       before_from (holds_back o op) seen.1 from i r le not_held
@@ -43,7 +43,7 @@ module _ {Shape State Op Undo : Type 0} (o : Object Shape State Op Undo) (C : Op
   covered_there : (e : LocalEntry Op) → In e seen.1 → is_own e.mark ≡ true → C e.op
   covered_there e there = known.covered e (subst (λ (z : Shape × List (LocalEntry Op)). In e z.1) (sym is) there)
 
-  -- where all that are own swap, none is found
+  -- If all own entries swap, none is found.
   module _ (laws : IsLawful o) where
     -- If the operation swaps with all covered ones, no unpushed entry holds it back.
     pub none_holds_back : (i : ℕ) → ((b : Op) → C b → Swaps o op b) → None ≡ position (holds_back o op) (take i seen.1)
@@ -63,7 +63,7 @@ module _ {Shape State Op Undo : Type 0} (o : Object Shape State Op Undo) (C : Op
         sym (nowhere (stands_first o op) seen.1 (λ e there.
         swapping_own e.mark (o.refuting e.op op) (λ h. (laws.unrefuted e.op op).1 (swap e.op (covered_there e there h)))))
 
--- there are lists exactly where the pair does not swap
+-- There are refuting lists exactly if the pair does not swap.
 pub refuted_by_lists : {A : Type 0} (b : Bool) (r : Option A) → (b ≡ true → r ≡ None) → (r ≡ None → b ≡ true) → not b ≡ is_some r
 refuted_by_lists true r h k = sym (ap is_some (h refl))
 refuted_by_lists false None h k = let never : false ≡ true = k refl in cc

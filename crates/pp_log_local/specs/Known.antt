@@ -9,7 +9,7 @@ abbrev pub NoneUnpushedBefore : {Op : Type 0} → List (LocalEntry Op) → ℕ �
 NoneUnpushedBefore {Op} log k =
     (j : ℕ) (e : LocalEntry Op) → j < k → slice_get log j ≡ Some e → is_mark e.mark Unpushed ≡ false
 
--- The same, where nothing is said of the i-th entry.
+-- The same if nothing is said of the i-th entry.
 abbrev pub NoneUnpushedBut : {Op : Type 0} → ℕ → List (LocalEntry Op) → ℕ → Type 0
 NoneUnpushedBut {Op} i log k =
     (j : ℕ) (e : LocalEntry Op) → j ≢ i → j < k → slice_get log j ≡ Some e
@@ -20,14 +20,14 @@ abbrev pub NonePushedFrom : {Op : Type 0} → List (LocalEntry Op) → ℕ → T
 NonePushedFrom {Op} log k =
     (j : ℕ) (e : LocalEntry Op) → k ≤ j → slice_get log j ≡ Some e → is_mark e.mark Pushed ≡ false
 
--- The same, where nothing is said of the i-th entry.
+-- The same if nothing is said of the i-th entry.
 abbrev pub NonePushedBut : {Op : Type 0} → ℕ → List (LocalEntry Op) → ℕ → Type 0
 NonePushedBut {Op} i log k =
     (j : ℕ) (e : LocalEntry Op) → j ≢ i → k ≤ j → slice_get log j ≡ Some e
     → is_mark e.mark Pushed ≡ false
 
--- Each own entry's operation is covered, so many are own, and between the two positions stand all
--- that are unpushed, behind the first, and all that are pushed, before the second.
+-- Each own entry's operation is covered, so many are own, and between the two positions are all
+-- that are unpushed, after the first, and all that are pushed, before the second.
 pub record KnowsOwn {Op : Type 0} (IsCovered : Op → Type 0) (log : List (LocalEntry Op))
     (own_count unpushed_from pushed_to : ℕ) : Type 0 where
   pub covered : (e : LocalEntry Op) → In e log → is_own e.mark ≡ true → IsCovered e.op

@@ -13,6 +13,6 @@ module _ {Shape State Op Undo : Type 0} (o : Object Shape State Op Undo) where
   abbrev pub stays_behind : Op → LocalEntry Op → Bool
   stays_behind op b = is_mark b.mark Pushed && is_some (o.refuting b.op op)
 
-  -- whether it is an own entry that may not come behind the operation
+  -- whether it is an own entry that may not come after the operation
   abbrev pub stands_first : Op → LocalEntry Op → Bool
   stands_first op a = is_own a.mark && is_some (o.refuting a.op op)

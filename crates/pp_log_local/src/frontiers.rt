@@ -1,4 +1,4 @@
-//! The positions between which the unpushed and the pushed entries of a local log stand.
+//! The positions between which the unpushed and the pushed entries of a local log are.
 ghost use Rattle.std.specs.Prelude.{◌≡◌, ◌<◌, ◌≤◌, ◌+◌, length};
 ghost use Rattle.pp_log_local.specs.Known.{NonePushedBut, NonePushedFrom};
 ghost use Rattle.pp_log_local.specs.Known.{NoneUnpushedBefore, NoneUnpushedBut};
@@ -69,7 +69,7 @@ pub fn pushed_to<O: Copy>(entries: &[LocalEntry<O>], i: usize, to: usize) -> usi
     moved_back(entries, to)
 }
 
-/// Where a frontier stands once the i-th entry is out.
+/// The position of a frontier after the i-th entry is taken out.
 pub fn without(frontier: usize, i: usize) -> usize
     ensures behind { i < frontier → result + 1 ≡ frontier }
     ensures before { frontier ≤ i → result ≡ frontier }

@@ -28,7 +28,7 @@ use std::sync::ledger::Ledger;
 #[derive(Drop)]
 pub struct Local<S: Parted> {
     log: Log<S, LocalSide>,
-    /// They stand for the operation of each own entry.
+    /// They represent the operation of each own entry.
     samples: Samples<S>,
     /// How many entries are own.
     own_count: usize,
@@ -48,7 +48,7 @@ impl<S: Parted> Model for Local<S> {
 }
 
 impl<S: Parted> Local<S> {
-    /// The empty log. The only error is that memory was refused.
+    /// The empty log. The only error is out of memory.
     pub fn new(alloc: Global, shape: &S::Shape) -> Result<Self, OutOfMemory>
         ensures { IfOk result (λ log. log ≡ (shape.now, [])) }
     {
@@ -86,14 +86,14 @@ impl<S: Parted> Local<S> {
         self.log.entries()
     }
 
-    /// Where the entry with this id stands. It asks an index, and walks over nothing.
+    /// The position of the entry with this id. It uses an index, and walks over nothing.
     pub fn find(&self, id: u32) -> Option<usize>
         ensures { result ≡ position (λ e. e.id == id) self.now.1 }
     {
         self.log.find(id)
     }
 
-    /// The first position at `from` or behind it whose operation has this place. It halves over the
+    /// The first position at `from` or after it whose operation has this place. It halves over the
     /// entries of the place, and takes no memory.
     pub fn next_on(&self, place: u16, from: usize) -> Option<usize>
         ensures found { IfSome result (IsFirstFrom (IsOn S.place_of item place) self.now.1 from) }
@@ -102,7 +102,7 @@ impl<S: Parted> Local<S> {
         self.log.next_on(place, from)
     }
 
-    /// Whether the log stays allowed with the operation behind it.
+    /// Whether the log stays allowed with the operation after it.
     pub fn legal(&self, op: &S::Op) -> bool
         requires { IsTrue (S.object.fits self.now.0 op.now) }
         ensures { IsTrue result ↔ GoesBehind S.object self.now.0 (local_ops self.now.1) op.now }
@@ -118,8 +118,7 @@ impl<S: Parted> Local<S> {
         S::gives(self.log.state(), op)
     }
 
-    /// Adds an entry at the end. The only error is that memory was refused, and the log is then as
-    /// it was.
+    /// Adds an entry at the end. The only error is out of memory, and the log is then as it was.
     pub fn append<L: Ledger>(
         &mut self,
         entry: LocalEntry<S::Op>,
@@ -182,8 +181,8 @@ impl<S: Parted> Local<S> {
         Some(start + k)
     }
 
-    /// The first own pushed entry behind a position that may not come before the operation. It
-    /// walks over nothing where the samples show that all that are own may come before it.
+    /// The first own pushed entry after a position that may not come before the operation. It walks
+    /// over nothing if the samples show that all own entries may come before it.
     pub fn first_staying_behind(&self, i: usize, op: &S::Op) -> Option<usize>
         ensures { result ≡ option_map (λ k. i + 1 + k)
             (position (stays_behind S.object op.now) (drop (i + 1) self.now.1)) }
@@ -203,8 +202,8 @@ impl<S: Parted> Local<S> {
         Some(start + k)
     }
 
-    /// The first own entry that may not come behind the operation. It walks over nothing where no
-    /// entry is own, or the samples show that each may come behind it.
+    /// The first own entry that may not come after the operation. It walks over nothing if no entry
+    /// is own, or the samples show that each may come after it.
     pub fn first_not_before(&self, op: &S::Op) -> Option<usize>
         ensures { result ≡ position (stands_first S.object op.now) self.now.1 }
     {
@@ -215,11 +214,11 @@ impl<S: Parted> Local<S> {
     }
 
     /// Takes out the i-th entry, unless the list without it is not allowed. The ticks are those of
-    /// its place alone: where the entry is the last one there, it is taken back; where the gap that
-    /// it leaves is known behind the others there and borne, one tick at most; else, with k
-    /// operations there from the entry on, itself counted, these are taken back, and the k - 1 others
-    /// applied again; where one of them differs, what was applied is taken back too, and all k are
-    /// applied as they were. The only error is that memory was refused, and the log is then lost.
+    /// its place alone. If the entry is the last one there, it is taken back. If the gap that it
+    /// leaves is known after the others there and borne, it takes one tick at most. Otherwise, with
+    /// k operations there from the entry on, itself counted, these are taken back, and the k - 1
+    /// others applied again. If one of them differs, what was applied is taken back too, and all k
+    /// are applied as they were. The only error is out of memory, and the log is then lost.
     pub fn remove<L: Ledger>(
         self,
         i: usize,

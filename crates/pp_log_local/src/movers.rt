@@ -57,14 +57,14 @@ pub fn first_staying_behind<S: Spec>(entries: &[LocalEntry<S::Op>], op: &S::Op) 
         .position(|entry| stays_behind::<S>(entry, op))
 }
 
-/// Whether this is an own entry that may not come behind the operation.
+/// Whether this is an own entry that may not come after the operation.
 fn stands_first<S: Spec>(entry: &LocalEntry<S::Op>, op: &S::Op) -> bool
     ensures { result ≡ stands_first S.object op.now entry.now }
 {
     is_own(entry.mark) && is_refuted::<S>(&entry.op, op)
 }
 
-/// The position of the first own entry that may not come behind the operation.
+/// The position of the first own entry that may not come after the operation.
 pub fn first_not_before<S: Spec>(entries: &[LocalEntry<S::Op>], op: &S::Op) -> Option<usize>
     ensures { result ≡ position (stands_first S.object op.now) entries.now }
 {

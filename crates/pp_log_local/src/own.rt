@@ -1,4 +1,4 @@
-//! How many entries of a local log are own, and what stands for their operations.
+//! How many entries of a local log are own, and what represents their operations.
 ghost use Rattle.std.specs.Prelude.{◌≡◌, ◌<◌, ◌≤◌, ◌+◌, true, length, [], ◌∷◌};
 ghost use Rattle.pp_model.specs.Config.{is_own, own};
 ghost use Rattle.pp_kind.specs.declared.range.TheConstants.{MOST_OPERATIONS};

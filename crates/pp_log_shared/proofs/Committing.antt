@@ -35,7 +35,7 @@ stays_other {Op} t e h = ap (λ (b : Bool). cond b (as_committed e) e) h
 is_committed : {Op : Type 0} (t : Name) (e : SharedEntry Op) → (e.owner =ⁿ t) ≡ true → commit t e ≡ as_committed e
 is_committed {Op} t e h = ap (λ (b : Bool). cond b (as_committed e) e) h
 
--- where the owner has no uncommitted entry, nothing is committed
+-- If the owner has no uncommitted entry, nothing is committed.
 stays : {Op : Type 0} (t : Name) (e : SharedEntry Op) → (e.committed ≡ false → e.owner ≡ t → ⊥) → (b : Bool) → e.committed ≡ b → commit t e ≡ e
 stays t e none true is = stays_committed t e is
 stays t e none false is = elim (names_tell e.owner t) [ inl own ↦ absurd (none is own.1) | inr other ↦ stays_other t e other.0 ]
@@ -174,7 +174,7 @@ held_from {Op} t i items p log lt is =
     let next : suc i ≡ i + 1 = omega arith in
     subst (λ (z : List (Item Op)). HoldsIdsOf t z log) (drop_here i items p lt is ∙ ap (λ (n : ℕ). p ∷ drop n items) next)
 
--- where no id is left, all entries of the owner are committed
+-- If no id is left, all entries of the owner are committed.
 pub all_of_owner : {Shape Op : Type 0} (t : Name) (i : ℕ) (items : List (Item Op)) (old new : Shape × List (SharedEntry Op)) → new.0 ≡ old.0 → commit_all t new.1 ≡ commit_all t old.1 → length items ≤ i → HoldsIdsOf t (drop i items) new.1 → new ≡ (old.0, commit_all t old.1)
 all_of_owner {Shape} {Op} t i items old new shape end past holds =
     let none : HoldsIdsOf t [] new.1 = subst (λ (z : List (Item Op)). HoldsIdsOf t z new.1) (drop_past i items past) holds in

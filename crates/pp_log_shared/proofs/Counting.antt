@@ -31,7 +31,7 @@ one_longer : {E : Type 0} (b : Bool) (a : E) (x : List E) → length (cond b (a 
 one_longer true a x = omega arith
 one_longer false a x = omega arith
 
--- how many pass a test, of one list behind another
+-- How many pass a test, of one list after another.
 pass_both : {E : Type 0} (test : E → Bool) (x y : List E) → length (filter test (x ++ y)) ≡ length (filter test x) + length (filter test y)
 pass_both test x y = ap length (filter-append test x y) ∙ length-append (filter test x) (filter test y)
 
@@ -43,7 +43,7 @@ filter_with test u v e =
     let one = one_longer (test e) e (filter test v) in
     omega arith
 
--- where all that pass one test pass another, and one passes the other alone
+-- If all that pass one test pass another, and one passes the other alone.
 one_at_most : (b c : Bool) → (b ≡ true → c ≡ true) → one_if b ≤ one_if c
 one_at_most true c h = let one : one_if c ≡ 1 = ap one_if (h refl) in omega arith
 one_at_most false c h = omega arith

@@ -23,7 +23,7 @@ module _ {Op : Type 0} (place_of : Op → ℕ) (place : ℕ) (log : List (Shared
   pub none_yet : (from : ℕ) → NoneBetween (IsCommittedOn place_of place) log from from
   none_yet from j e above below at on = absurd (omega arith)
 
-  -- an entry of the place stands in the log
+  -- An entry of the place is in the log.
   pub within : (at k : ℕ) → IsFirstFrom (IsOn place_of shared_item place) log at k → k < length log
   within at k next = slice_get_within log k next.entry next.is
 

@@ -16,7 +16,7 @@ use Rattle.pp_log_shared.specs.declared.open_parts.OpenPart.{OpenPart}
 use Rattle.pp_log_shared.specs.Blocking.{IsSettled}
 use Rattle.pp_log_shared.specs.Uncommitted.{KeepsOpen, TellsOf, open_in, same_part}
 
--- the front behind one more entry
+-- A settled front of a log is settled with one more entry.
 pub settled_push : {Op : Type 0} (x : List (SharedEntry Op)) (e : SharedEntry Op) (k : ℕ) → IsSettled x k → IsSettled (x ++ e ∷ []) k
 settled_push x e k h =
     let size = length_push x e in
@@ -32,7 +32,7 @@ settled_remove x k m i le before inside h =
     let size = length-remove x i inside in
     record { within = omega arith; committed = λ j d lt at. h.committed j d (omega arith) (sym (before_stays x i j (omega arith)) ∙ at) }
 
--- no uncommitted entry of a part stands in the front
+-- No uncommitted entry of a part is in the front.
 open_behind : {Op : Type 0} (part_of : Op → Part) (p : Part) (x : List (SharedEntry Op)) (k : ℕ) → IsSettled x k → open_in part_of p (drop k x) ≡ open_in part_of p x
 open_behind part_of p x zero h = ap (open_in part_of p) (drop_none x)
 open_behind part_of p [] (suc k) h = refl
@@ -42,7 +42,7 @@ open_behind part_of p (e ∷ x) (suc k) h =
     open_behind part_of p x k rest
     ∙ sym (ap (λ (b : Bool). cond (not b && same_part (part_of e.op) p) (e ∷ open_in part_of p x) (open_in part_of p x)) (h.committed 0 e (omega arith) refl))
 
--- so what is known of the whole log is known of what stands behind the front, and the other way round
+-- What is known of the whole log is known of the entries after the front, and the other way round.
 module _ {Shape State Op Undo : Type 0} (o : Object Shape State Op Undo) (label_of : Op → Label) (part_of : Op → Part) (slots : List (Part × OpenPart (SampleList Op))) (x : List (SharedEntry Op)) (k : ℕ) (h : IsSettled x k) where
   -- The facts about the uncommitted entries of a log are true of those after its settled front.
   pub known_behind : KeepsOpen o label_of part_of slots x → KeepsOpen o label_of part_of slots (drop k x)

@@ -38,11 +38,11 @@ pub same_part-itself : (p : Part) → same_part p p ≡ true
 same_part-itself p =
     ap (λ (b : Bool). b && int_eq p.key p.key) ((Decides-eqb p.object p.object).1 refl) ∙ (Decides-int_eq p.key p.key).1 refl
 
--- those that pass a test, of a list with one more behind it
+-- Those that pass a test, of a list with one more after it.
 pub filter_push : {E : Type 0} (test : E → Bool) (x : List E) (e : E) (b : Bool) → test e ≡ b → filter test (x ++ e ∷ []) ≡ filter test x ++ cond b (e ∷ []) []
 filter_push {E} test x e b h = filter-append test x (e ∷ []) ∙ ap (λ (c : Bool). filter test x ++ cond c (e ∷ []) []) h
 
--- and where it does not pass, they are the same
+-- If the entry does not pass the test, those that pass are the same.
 pub filter_push-false : {E : Type 0} (test : E → Bool) (x : List E) (e : E) → test e ≡ false → filter test (x ++ e ∷ []) ≡ filter test x
 filter_push-false test x e h = filter_push test x e false h ∙ append-nil (filter test x)
 
@@ -276,7 +276,7 @@ module _ {Shape State Op Undo : Type 0} (o : Object Shape State Op Undo) (label_
               subst (λ (z : List (SharedEntry Op)). TellsOf o label_of (lookup (same_part p) slots) z) (sym same) (kept.told p);
         }
 
-    -- where each entry of the operation's part swaps with it, all give way
+    -- If each entry of the operation's part swaps with it, all entries commute with it.
     pub part_gives_way : PartsSwap o part_of → (owner : Name) (op : Op) (x : List (SharedEntry Op)) → ((e : SharedEntry Op) → In e (open_in part_of (part_of op) x) → e.owner ≢ owner → Swaps o e.op op) → AllGiveWay o owner op x
     part_gives_way apart owner op x way e inside uncommitted other = at (same_part (part_of e.op) (part_of op)) refl
       where

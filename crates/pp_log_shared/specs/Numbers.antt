@@ -24,17 +24,17 @@ abbrev pub counted_of : Option Counted → Counted
 counted_of None = none_counted
 counted_of (Some counted) = counted
 
--- how many have a number, or how many they are, where no number is asked for
+-- how many have a number, or how many they are if no number is asked for
 abbrev pub amount : Option ℤ → Counted → ℕ
 amount None counted = counted.size
 amount (Some n) counted = count_at (λ m. lookup (int_eq m) counted.numbers) n
 
--- it is the number, where one is asked for
+-- it is the number if one is asked for
 abbrev pub is_number : Option ℤ → ℤ → Bool
 is_number None m = true
 is_number (Some n) m = int_eq m n
 
--- one where it is so, and else none
+-- one if it is so, and else none
 abbrev pub one_if : Bool → ℕ
 one_if b = cond b 1 0
 
@@ -118,8 +118,8 @@ pub record HasOthers (own : TallyList) (owner : Name) (form : ℕ) (counted : Co
 
 module _ {Shape State Op Undo : Type 0} (o : Object Shape State Op Undo) (label_of : Op → Label)
     (owner : Name) (b : Op) (own : TallyList) where
-  -- Each operation of this form whose number others have than the own ones of the owner swaps with b
-  -- behind it.
+  -- Each operation of this form with a number that others than the owner have swaps with b after
+  -- it.
   abbrev pub FormSwaps : Holder × Counted → Type 0
   FormSwaps e = (a : Op) → (label_of a).form ≡ e.0.form →
       HasOthers own owner e.0.form e.1 (label_of a).number → Swaps o a b

@@ -71,8 +71,8 @@ pub record KeepsShared {Shape State Op Undo : Type 0} (o : Object Shape State Op
   pub settles : IsSettled log settled
   pub opens : KeepsOpen o label_of part_of slots log
 
--- The entry with this id is committed, where it is an uncommitted one of the owner. All others stay
--- as they were.
+-- The entry with this id is committed if it is an uncommitted one of the owner. All others stay as
+-- they were.
 pub record CommitsOne {Shape Op : Type 0} (owner : Name) (id : ℕ)
     (old new : Shape × List (SharedEntry Op)) : Type 0 where
   pub shape : new.0 ≡ old.0

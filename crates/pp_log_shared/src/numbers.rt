@@ -64,7 +64,7 @@ impl Tallies {
         }
     }
 
-    /// Counts one more entry. False says that memory was refused, or there are too many.
+    /// Counts one more entry. False says that memory ran out, or there are too many.
     fn add(&mut self, owner: Option<Name>, label: &Label) -> bool
         ensures { IsTrue result → Gains self.old self.new owner label.now }
     {
@@ -122,7 +122,7 @@ impl Tallies {
 }
 
 /// Whether each entry of a form that is of another owner is known to change places with the
-/// operation behind it. False says nothing.
+/// operation after it. False says nothing.
 fn form_swaps<S: Parted>(
     holder: &Holder,
     all: &Tally,
@@ -143,7 +143,7 @@ fn is_open_in<S: Parted>(entry: &SharedEntry<S::Op>, part: Part) -> bool
     !entry.committed && S::part(&entry.op) == part
 }
 
-/// Whether each entry that is of another owner is known to change places with the operation behind
+/// Whether each entry that is of another owner is known to change places with the operation after
 /// it. False says nothing.
 fn all_forms_swap<S: Parted>(all: &Tallies, own: &Tallies, owner: &Name, op: &S::Op) -> bool
     ensures { IsTrue result →
@@ -168,7 +168,7 @@ impl Numbers {
         }
     }
 
-    /// Counts one more entry. False says that memory was refused, or there are too many.
+    /// Counts one more entry. False says that memory ran out, or there are too many.
     fn add<S: Parted>(&mut self, entry: &SharedEntry<S::Op>) -> bool
         ensures { IsTrue result → GainsEntry S.label_of self.old self.new entry.now }
     {
@@ -185,7 +185,7 @@ impl Numbers {
         self.own.take(Some(entry.owner), &label);
     }
 
-    /// Whether each entry of another owner is known to change places with the operation behind it.
+    /// Whether each entry of another owner is known to change places with the operation after it.
     /// False says nothing.
     fn all_swap<S: Parted>(&self, owner: &Name, op: &S::Op) -> bool
         ensures { IsTrue result →
@@ -195,8 +195,8 @@ impl Numbers {
     }
 }
 
-/// Counts one entry more, where it is an uncommitted one of a part. False says that memory was
-/// refused, or there are too many.
+/// Counts one more entry, if it is an uncommitted one of a part. False says that memory ran out, or
+/// there are too many.
 fn add_open<S: Parted>(numbers: &mut Numbers, entry: &SharedEntry<S::Op>, part: Part) -> bool
     ensures { IsTrue result → (x : List (EntryOf S.Op)) →
         CountsAll S.label_of numbers.old (open_in S.part_of part x) →
@@ -208,8 +208,8 @@ fn add_open<S: Parted>(numbers: &mut Numbers, entry: &SharedEntry<S::Op>, part: 
     numbers.add::<S>(entry)
 }
 
-/// The numbers of the uncommitted entries of a part in a log, or none where memory is refused, or
-/// there are too many.
+/// The numbers of the uncommitted entries of a part in a log, or none if memory runs out, or there
+/// are too many.
 pub fn numbers_in<S: Parted>(
     alloc: Global,
     entries: &[SharedEntry<S::Op>],
@@ -226,7 +226,7 @@ pub fn numbers_in<S: Parted>(
     Some(numbers)
 }
 
-/// One entry more, where numbers are kept. Where memory is refused, or there are too many, they are
+/// Counts one more entry, if numbers are kept. If memory runs out, or there are too many, they are
 /// given up.
 pub fn count_more<S: Parted>(numbers: &mut Option<Numbers>, entry: &SharedEntry<S::Op>)
     ensures { (x : List (EntryOf S.Op)) → CountsAllOf S.label_of numbers.old x →
@@ -240,7 +240,7 @@ pub fn count_more<S: Parted>(numbers: &mut Option<Numbers>, entry: &SharedEntry<
     }
 }
 
-/// One entry less, where numbers are kept.
+/// Leaves one entry out, if numbers are kept.
 pub fn count_less<S: Parted>(numbers: &mut Option<Numbers>, entry: &SharedEntry<S::Op>)
     ensures { (x y : List (EntryOf S.Op)) → CountsAllOf S.label_of numbers.old x →
         LosesOne entry.now x y → CountsAllOf S.label_of numbers.new y }
@@ -252,7 +252,7 @@ pub fn count_less<S: Parted>(numbers: &mut Option<Numbers>, entry: &SharedEntry<
 }
 
 /// Whether numbers are kept, and by them each entry of another owner changes places with the
-/// operation behind it. False says nothing.
+/// operation after it. False says nothing.
 pub fn numbers_let<S: Parted>(numbers: &Option<Numbers>, owner: &Name, op: &S::Op) -> bool
     ensures { IsTrue result → (x : List (EntryOf S.Op)) → CountsAllOf S.label_of numbers.now x →
         (e : EntryOf S.Op) → In e x → e.owner ≢ owner.now → Swaps S.object e.op op.now }

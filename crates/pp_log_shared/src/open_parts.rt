@@ -13,7 +13,7 @@ use pp_core::{Name, OutOfMemory, SharedEntry};
 use pp_kind::{Part, Parted, Samples};
 use std::alloc::Global;
 
-/// What is known of the uncommitted entries of one part. The samples are of their operations. Where
+/// What is known of the uncommitted entries of one part. The samples are of their operations. If
 /// there is none, the owner and the samples are those of earlier ones, and say nothing.
 #[derive(Drop)]
 pub struct OpenPart<T> {
@@ -23,7 +23,7 @@ pub struct OpenPart<T> {
     /// Whether all of them are the owner's.
     pub alone: bool,
     pub samples: T,
-    /// Their numbers, where these are kept.
+    /// Their numbers, if these are kept.
     pub numbers: Option<Numbers>,
 }
 
@@ -42,7 +42,7 @@ fn first<S: Parted>(alloc: Global, entry: &SharedEntry<S::Op>) -> OpenPart<Sampl
     }
 }
 
-/// One more entry. Where there was none, what is known begins anew.
+/// Counts one more entry. If there was none, the count begins again.
 fn note<S: Parted>(alloc: Global, slot: &mut OpenPart<Samples<S>>, entry: &SharedEntry<S::Op>)
     requires { slot.old.count < MOST_OPERATIONS }
     ensures { (x : List (EntryOf S.Op)) → Tells S.object S.label_of slot.old x →
@@ -58,7 +58,7 @@ fn note<S: Parted>(alloc: Global, slot: &mut OpenPart<Samples<S>>, entry: &Share
     count_more::<S>(&mut slot.numbers, entry);
 }
 
-/// One entry less. Where it was the last, no numbers are kept.
+/// Leaves one entry out. If it was the last, no numbers are kept.
 fn forget<S: Parted>(slot: &mut OpenPart<Samples<S>>, entry: &SharedEntry<S::Op>)
     ensures { (x y : List (EntryOf S.Op)) → Tells S.object S.label_of slot.old x →
         LosesOne entry.now x y → Tells S.object S.label_of slot.new y }
@@ -72,7 +72,7 @@ fn forget<S: Parted>(slot: &mut OpenPart<Samples<S>>, entry: &SharedEntry<S::Op>
 }
 
 /// Whether numbers are worth keeping, since they may show more than the samples, which leave open
-/// whether the entries of others, if there are any, give way to this one. Nothing is promised of it.
+/// whether the entries of others commute with this one. Nothing is promised of it.
 fn wants_numbers<S: Parted>(slot: &OpenPart<Samples<S>>, entry: &SharedEntry<S::Op>) -> bool {
     if slot.count == 0 || slot.numbers.is_some() {
         return false;
@@ -83,10 +83,11 @@ fn wants_numbers<S: Parted>(slot: &OpenPart<Samples<S>>, entry: &SharedEntry<S::
     !slot.samples.all_before(&entry.op)
 }
 
-/// What is known of the uncommitted entries of a log: for each part that has some, or had some, how
-/// many there are, whose, operations that stand for theirs, and, where these do not show that all of
-/// several owners give way, and the log is long behind the settled position, their numbers. A part
-/// keeps its slot when its last entry is left out, since operations come to the same parts again.
+/// What is known of the uncommitted entries of a log. For each part that has some, or had some: how
+/// many there are, whose they are, and operations that represent theirs. Their numbers are kept
+/// too, if these do not show that all entries of several owners commute, and the log is long after
+/// the settled position. A part keeps its slot when its last entry is left out, since operations
+/// come to the same parts again.
 #[derive(Drop)]
 pub struct OpenParts<S: Parted> {
     pub slots: IndexMap<Part, OpenPart<Samples<S>>>,
@@ -104,7 +105,7 @@ impl<S: Parted> OpenParts<S> {
         }
     }
 
-    /// Makes room for one more entry. The only error is that memory was refused.
+    /// Makes room for one more entry. The only error is out of memory.
     pub fn make_room(&mut self) -> Result<(), OutOfMemory>
         ensures same { self.new.slots.entries ≡ self.old.slots.entries }
         ensures room { OnOk result (0 < spare self.new.slots) }
@@ -142,8 +143,8 @@ impl<S: Parted> OpenParts<S> {
         }
     }
 
-    /// Begins to keep the numbers of an operation's part, which one walk over the entries finds.
-    /// Where memory is refused none are kept.
+    /// Begins to keep the numbers of an operation's part, which one walk over the entries finds. If
+    /// memory runs out none are kept.
     pub fn keep_numbers(&mut self, op: &S::Op, entries: &[SharedEntry<S::Op>])
         ensures { KeepsOpen S.object S.label_of S.part_of self.old.slots.entries entries.now →
             KeepsOpen S.object S.label_of S.part_of self.new.slots.entries entries.now }
@@ -171,7 +172,7 @@ impl<S: Parted> OpenParts<S> {
     }
 
     /// Whether each uncommitted entry of another owner is known to change places with the operation
-    /// behind it. False says nothing.
+    /// after it. False says nothing.
     pub fn lets(&self, owner: &Name, op: &S::Op) -> bool
         ensures { IsTrue result → (x : List (EntryOf S.Op)) →
             KeepsOpen S.object S.label_of S.part_of self.now.slots.entries x →

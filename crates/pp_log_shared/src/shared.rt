@@ -25,8 +25,8 @@ use std::alloc::Global;
 use std::marker::Model;
 use std::sync::ledger::Ledger;
 
-/// Numbers are kept where more entries than these, with the new one, stand from the settled position
-/// on: a shorter walk is taken to cost less.
+/// Numbers are kept if more entries than these, with the new one, are from the settled position on:
+/// a shorter walk is taken to cost less.
 const SHORT_WALK: usize = 64;
 
 /// The shared log: the operations that transactions pushed, which are allowed one after another.
@@ -50,7 +50,7 @@ impl<S: Parted> Model for Shared<S> {
 }
 
 /// Whether an entry is uncommitted, of another owner, and may not change places with an operation
-/// behind it.
+/// after it.
 fn blocks<S: Spec>(owner: &Name, op: &S::Op, entry: &SharedEntry<S::Op>) -> bool
     ensures blocks { IsTrue result → Blocks S.object owner.now op.now entry.now }
     ensures gives_way { result ≡ false → GivesWay S.object owner.now op.now entry.now }
@@ -120,7 +120,7 @@ fn forget_own<S: Parted>(parts: &mut OpenParts<S>, log: &Log<S, SharedSide>, own
 }
 
 impl<S: Parted> Shared<S> {
-    /// The empty log. The only error is that memory was refused.
+    /// The empty log. The only error is out of memory.
     pub fn new(alloc: Global, shape: &S::Shape) -> Result<Self, OutOfMemory>
         ensures { IfOk result (λ log. log ≡ (shape.now, [])) }
     {
@@ -156,15 +156,15 @@ impl<S: Parted> Shared<S> {
         self.log.entries()
     }
 
-    /// Where the entry with this id stands, as the index of the log has it.
+    /// The position of the entry with this id, as the index of the log has it.
     pub fn find(&self, id: u32) -> Option<usize>
         ensures { result ≡ position (λ e. e.id == id) self.now.1 }
     {
         self.log.find(id)
     }
 
-    /// The first position at `from` or behind it whose operation has this place. It halves over
-    /// the entries of the place, and takes no memory.
+    /// The first position at `from` or after it whose operation has this place. It halves over the
+    /// entries of the place, and takes no memory.
     pub fn next_on(&self, place: u16, from: usize) -> Option<usize>
         ensures found { IfSome result
             (IsFirstFrom (IsOn S.place_of shared_item place) self.now.1 from) }
@@ -174,7 +174,7 @@ impl<S: Parted> Shared<S> {
         self.log.next_on(place, from)
     }
 
-    /// The first position at `from` or behind it whose entry is committed and whose operation has
+    /// The first position at `from` or after it whose entry is committed and whose operation has
     /// this place. It goes from one entry of the place to the next, and takes no memory.
     pub fn next_committed(&self, place: u16, from: usize) -> Option<usize>
         ensures found { IfSome result
@@ -195,7 +195,7 @@ impl<S: Parted> Shared<S> {
         None
     }
 
-    /// Whether the log stays allowed with the operation behind it.
+    /// Whether the log stays allowed with the operation after it.
     pub fn legal(&self, op: &S::Op) -> bool
         requires { IsTrue (S.object.fits self.now.0 op.now) }
         ensures { IsTrue result ↔ GoesBehind S.object self.now.0 (shared_ops self.now.1) op.now }
@@ -211,8 +211,7 @@ impl<S: Parted> Shared<S> {
         S::gives(self.log.state(), op)
     }
 
-    /// Adds an entry at the end. The only error is that memory was refused, and the log is then as
-    /// it was.
+    /// Adds an entry at the end. The only error is out of memory, and the log is then as it was.
     pub fn push<L: Ledger>(
         &mut self,
         entry: SharedEntry<S::Op>,
@@ -240,8 +239,8 @@ impl<S: Parted> Shared<S> {
     }
 
     /// The first uncommitted entry of another owner that may not change places with the operation
-    /// behind it, whatever the objects are. It walks over the entries only where what is known of
-    /// the uncommitted ones of the operation's part leaves the answer open.
+    /// after it, whatever the objects are. It walks over the entries only if what is known of the
+    /// uncommitted ones of the operation's part does not decide this.
     pub fn blocking(&self, owner: &Name, op: &S::Op) -> Option<usize>
         ensures some { IfSome result (λ k. IsFirstBlocking S.object owner.now op.now self.now.1 k) }
         ensures none { IfNone result (AllGiveWay S.object owner.now op.now self.now.1) }
@@ -258,7 +257,7 @@ impl<S: Parted> Shared<S> {
         None
     }
 
-    /// Commits the entry with this id, where it is an uncommitted one of the owner.
+    /// Commits the entry with this id if it is an uncommitted one of the owner.
     fn commit_entry(&mut self, owner: &Name, id: u32)
         requires { HasDistinctIds (map shared_item self.old.1) }
         ensures { CommitsOne owner.now id self.old self.new }
@@ -289,13 +288,13 @@ impl<S: Parted> Shared<S> {
         self.settled = settle(self.log.entries(), self.settled);
     }
 
-    /// Commits all entries of an owner, who says which these are. It looks at no others, but for
-    /// the committed ones that now stand at the front.
+    /// Commits all entries of an owner, whose ids are given. It looks at no others, except the
+    /// committed ones that are now at the front.
     pub fn commit(&mut self, owner: &Name, own: &Items<S::Op>)
         requires { HoldsIdsOf owner.now own.now self.old.1 }
         ensures { self.new ≡ (self.old.0, commit_all owner.now self.old.1) }
     {
-        // It stands here for what its clauses say of each log.
+        // It is here for what its clauses say of each log.
         if self.len() == 0 {
             return;
         }
@@ -306,11 +305,11 @@ impl<S: Parted> Shared<S> {
     }
 
     /// Takes out the i-th entry, unless the list without it is not allowed. The ticks are those of
-    /// its place alone: where the entry is the last one there, it is taken back; where the gap that
-    /// it leaves is known behind the others there and borne, one tick at most; else, with k
-    /// operations there from the entry on, itself counted, these are taken back, and the k - 1 others
-    /// applied again; where one of them differs, what was applied is taken back too, and all k are
-    /// applied as they were. The only error is that memory was refused, and the log is then lost.
+    /// its place alone. If the entry is the last one there, it is taken back. If the gap that it
+    /// leaves is known after the others there and borne, it takes one tick at most. Otherwise, with
+    /// k operations there from the entry on, itself counted, these are taken back, and the k - 1
+    /// others applied again. If one of them differs, what was applied is taken back too, and all k
+    /// are applied as they were. The only error is out of memory, and the log is then lost.
     pub fn remove<L: Ledger>(
         self,
         i: usize,
@@ -340,8 +339,8 @@ impl<S: Parted> Shared<S> {
 }
 
 impl<S: Parted + TakesBack> Shared<S> {
-    /// Takes entries out, each of which lets those of others behind it pass: each of them alone is
-    /// taken back. The only error is that memory was refused, and the log is then lost.
+    /// Takes entries out. The entries of others after each may move past it, so each of them alone
+    /// is taken back. The only error is out of memory, and the log is then lost.
     pub fn take_back<L: Ledger>(
         self,
         own: &[Item<S::Op>],
@@ -354,7 +353,7 @@ impl<S: Parted + TakesBack> Shared<S> {
         ensures rises { ticks.old ≤ ticks.new }
         ensures bound { ticks.new ≤ ticks.old + length own.now }
     {
-        // It stands here for what its clauses say of each log.
+        // It is here for what its clauses say of each log.
         if self.len() == 0 {
             return Ok(self);
         }

@@ -51,7 +51,7 @@ impl Tally {
         self.counts.get(&number).copied().unwrap_or(0)
     }
 
-    /// Counts one more. False says that memory was refused, or that there are too many.
+    /// Counts one more. False says that memory ran out, or that there are too many.
     pub fn add(&mut self, number: i128) -> bool
         ensures { IsTrue result → (q : Option ℤ) →
             amount q self.new ≡ amount q self.old + one_if (is_number q number) }
@@ -100,8 +100,8 @@ impl Tally {
             || *count <= own.count(*number))
     }
 
-    /// Whether each number passes that others have than some own ones among the entries. It walks
-    /// over the numbers only where there are others, and the gate has a bound.
+    /// Whether each number passes that others than the owner have. It walks over the numbers only
+    /// if there are others, and the gate has a bound.
     pub fn others_pass(&self, own: &Tally, gate: Gate) -> bool
         ensures { IsTrue result → own.now.size < self.now.size → (n : ℤ) →
             amount (Some n) own.now < amount (Some n) self.now → IsTrue (passes gate n) }

@@ -80,7 +80,7 @@ pub find_map : {X Y : Type 0} (f : X → Y) (p : Y → Bool) (xs : List X) → f
 find_map f p [] = refl
 find_map {X} {Y} f p (x ∷ xs) = ap (λ (r : Option Y). cond (p (f x)) (Some (f x)) r) (find_map f p xs) ∙ map_cond f x (find (λ y. p (f y)) xs) (p (f x))
 
--- what stands at a place, and before it
+-- What is at a place, and before it.
 pub slice_within : {X : Type 0} (xs : List X) (i : ℕ) (x : X) → slice_get xs i ≡ Some x → i < length xs
 slice_within [] i x h = absurd (cc)
 slice_within (y ∷ ys) zero x h = omega arith
@@ -133,7 +133,7 @@ no_place (Some k) b e t = let z : true ≡ false = sym e ∙ t in cc
 pub place_in : {X : Type 0} (p : X → Bool) (xs : List X) (i : ℕ) → position p xs ≡ Some i → (x : X) × In x xs × (p x ≡ true)
 place_in p xs i h = let q = placed p xs i h in (q.0, stands_in xs i q.0 q.1, q.2)
 
--- what stands behind a place
+-- What is after a place.
 pub in_dropped : {X : Type 0} (i : ℕ) (a : X) (xs : List X) → In a (drop i xs) → In a xs
 in_dropped zero a xs h = h
 in_dropped (suc i) a [] h = elim h [ ]
@@ -153,7 +153,7 @@ behind_here f (y ∷ ys) d zero x b h (inr k) = before_in_second x b ys k
 behind_here f (y ∷ ys) d (suc i) x b h (inl k) = absurd (d y x (inl (refl, stands_in ys i x h)) (ap f (sym k.0)))
 behind_here f (y ∷ ys) d (suc i) x b h (inr k) = behind_here f ys (λ p q w. d p q (inr w)) i x b h k
 
--- of two elements the part before a place, or behind it, keeps which is the first
+-- Two elements in order in the first part of a list are in order in the list.
 pub before_taken : {X : Type 0} (i : ℕ) (a b : X) (xs : List X) → Before a b (take i xs) → Before a b xs
 before_taken zero a b xs h = elim h [ ]
 before_taken (suc i) a b [] h = elim h [ ]
@@ -249,7 +249,7 @@ read_there xs k x y h e = sym (get_or_from_slice_get xs k y x h) ∙ sym e
 pub read_found : {X : Type 0} (p : X → Bool) (xs : List X) (k : ℕ) (x : X) → position p xs ≡ Some k → x ≡ get_or xs k x → slice_get xs k ≡ Some x
 read_found {X} p xs k x h e = let r = placed p xs k h in r.1 ∙ ap (λ (z : X). Some z) (read_there xs k x r.0 r.1 e)
 
--- what an index reads at a place that was found in a list, before a place of it, or behind that
+-- What an index reads at a place that was found in a list, before or after another place.
 module _ {X : Type 0} (p : X → Bool) (xs l : List X) (e : xs ≡ l) where
   -- A position that was found in a list is below its length.
   pub found_within : (k : ℕ) → position p l ≡ Some k → k < length xs

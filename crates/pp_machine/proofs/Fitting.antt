@@ -30,7 +30,7 @@ module _ {Shape State Op Undo : Type 0} (o : Object Shape State Op Undo) where
     pub marked_fits : (t : _) (x : Tx Op) → tx t c.opened ≡ Some x → (id : ℕ) (m : Mark) (e : LocalEntry Op) → at_mark id m x.local ≡ Some e → IsTrue (o.fits shape e.op)
     marked_fits t x h id m e k = local_fits t x h e (found_mark id m x.local e k).0
 
-  -- with the own operations of a ranged log behind it, a ranged serial list stays ranged
+  -- With the own operations of a ranged log after it, a ranged serial list stays ranged.
   pub serial_more : (D : List (CommittedTx Op)) (d : CommittedTx Op) (l : List (LocalEntry Op)) → AllRanged o (serial_ops D) → AllRanged o (local_ops l) → d.entries ≡ own_items l → AllRanged o (serial_ops (D ++ d ∷ []))
   serial_more D d l h r e = in_ranged o (serial_ops (D ++ d ∷ [])) (λ a i.
       let p = from_map (λ q. q.op) a (serial_items (D ++ d ∷ [])) i in

@@ -43,7 +43,7 @@ refused_cost {Shape} {Op} place v step refusal out is a b h = subst (λ (z : Out
 
 module _ {Shape State Op Undo : Type 0} (o : Object Shape State Op Undo) (shape : Shape) (v : Txs Shape Op) (ids : List ℕ) (G : Shape × List (SharedEntry Op)) (F : List (CommittedTx Op)) (n : ℕ) (h : Holds o shape v ids G F n) (w : Seen Shape Op)
     (same : ◌≡◌ {A = Seen Shape Op} (record { shape = shape; config = config_of v ids G.1 F; count = n }) w) where
-  -- the local log of the open transaction t, with an entry that stands in it
+  -- the local log of the open transaction t, with an entry that is in it
   pub record HasEntry (t : Name) (id : ℕ) (m : Mark) (i : ℕ) (e : LocalEntry Op) : Type 0 where
     pub log : Shape × List (LocalEntry Op)
     pub has : HasLog o shape v ids G F n h t log
@@ -86,7 +86,7 @@ module _ {Shape State Op Undo : Type 0} (o : Object Shape State Op Undo) (shape 
       subst (λ (z : Seen Shape Op). FindsPushed o z t id i j) same
       (record { entry = e; at = record { holder = _; is_open = r.is; found = q; here = at }; swap = s; posted = p })
 
-  -- each pushed entry of an open transaction stands in the shared log
+  -- Each pushed entry of an open transaction is in the shared log.
   pub stands_posted : (t : Name) (id : ℕ) (e : LocalEntry Op) (l : Shape × List (LocalEntry Op)) → HasLog o shape v ids G F n h t l → at_mark id Pushed l.1 ≡ Some e → position (λ g. g.id == id) G.1 ≡ None → ⊥
   stands_posted t id e l r q none =
       let k = found_mark id Pushed l.1 e q in

@@ -1,4 +1,4 @@
--- The open transactions of a machine, as they stand in its configuration.
+-- The open transactions of a machine, as they are in its configuration.
 use Rattle.std.proofs.Common.{IsTrue, ◌≡◌, ◌≢◌, ◌==◌, ℕ, true, false, List, [], ◌∷◌, ◌++◌, map}
 use Rattle.std.proofs.Common.{reverse, Option, Some, None, is_some, option_map, refl, sym, ap}
 use Rattle.std.proofs.Common.{subst, ◌∙◌}

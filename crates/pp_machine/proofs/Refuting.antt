@@ -1,4 +1,4 @@
--- Where the fact of a criterion holds of a detail that tells something, the criterion is false.
+-- If the fact of a criterion holds of a detail that reports something, the criterion is false.
 use Rattle.std.proofs.Common.{◌≡◌, ◌≢◌, ℕ, zero, suc, IsTrue, List, [], ◌∷◌, ◌++◌, Option, Some}
 use Rattle.std.proofs.Common.{None, refl, sym, ap, ◌∙◌}
 use Rattle.pp_model.specs.Config.{Config, Step, Begin, App, Unapp, Push, Unpush, Pull, Unpull, Cmt}
@@ -20,7 +20,7 @@ use Rattle.pp_machine.proofs.Removing.{differs_not}
 
 module _ {Shape State Op Undo : Type 0} (o : Object Shape State Op Undo) (laws : IsLawful o) (shape : Shape) where
   module _ (detail : Detail Op) (told : detail ≢ Nothing) where
-    -- Beside one another: where the fact holds of the detail, the criterion is false.
+    -- Criterion by criterion: if the fact is true for the detail, the criterion is false.
     abbrev Against : List (Type 0) → List (Detail Op → Type 0) → Type 0
     Against [] [] = Unit {0}
     Against [] (S ∷ Ss) = ⊥

@@ -43,7 +43,7 @@ module _ {Op E : Type 0} (passes : E → Bool) (refuting : E → Option (List Op
           subst (λ (z : E). swap_or (id_of z) (refuting z) Nothing ≡ swap_or (id_of y) (refuting y) rest) (same_Some y e k)
           (ap (λ (z : Option (List Op × List Op)). swap_or (id_of y) z Nothing) is ∙ sym (ap (λ (z : Option (List Op × List Op)). swap_or (id_of y) z rest) is))
 
-  -- where the walk does not stop, no pair of an entry that passes is refuted
+  -- If the walk does not stop, no pair of an entry that passes is refuted.
   pub none_stops : (l : List E) → position stops l ≡ None → (e : E) → In e l → passes e ≡ true → is_some (refuting e) ≡ false
   none_stops l h e i p = second_fails (passes e) (is_some (refuting e)) (find_nowhere stops l (place_none stops l h) e i) p
 

@@ -68,7 +68,7 @@ module _ {X : Type 0} where
   value_at (e ∷ es) zero t h = (e.1, refl)
   value_at (e ∷ es) (suc i) t h = value_at es i t h
 
-  -- where the names are told apart, it is the one that is found by its name
+  -- If the names are distinct, looking up the name at a position finds the value there.
   pub lookup_at : (es : List (Name × X)) (i : ℕ) (t : Name) (x : X) → slice_get (keys_of es) i ≡ Some t → slice_get (values_of es) i ≡ Some x → ((u v : Name) → Before u v (keys_of es) → u ≢ v) → lookup (λ n. t =ⁿ n) es ≡ Some x
   lookup_at [] i t x h k d = absurd (cc)
   lookup_at (e ∷ es) zero t x h k d = ap (λ (b : Bool). cond b (Some e.1) (lookup (λ n. t =ⁿ n) es)) (eq-names t e.0 (sym (same_Some e.0 t h))) ∙ k
@@ -193,7 +193,7 @@ module _ {A Shape Op : Type 0} (f : Name → A → Open Shape Op) (named : (n : 
         ∙ sym (ap (λ (b : Bool). b || list_any (λ n. n =ⁿ t) (keys_of es)) (sym (names_turned t n) ∙ r.0))
   ]
 
-  -- where the slot of a name is, among those before it and those after it
+  -- The slot of a name is among those before a slot, or among those after it, or that slot.
   pub record Located (es : List (Name × Option A)) (t : Name) (s : Option A) : Type 0 where
     pub before : List (Open Shape Op)
     pub after : List (Open Shape Op)

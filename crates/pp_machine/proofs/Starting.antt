@@ -1,4 +1,4 @@
--- What the parts of the start of a machine answer, and what shows that a criterion of the start is false.
+-- What the parts of the start of a machine return, and what shows that a criterion of the start is false.
 use Rattle.std.proofs.Common.{◌≡◌, ◌==◌, ◌<◌, ℕ, zero, suc, ◌+◌, Bool, true, false, cond, List}
 use Rattle.std.proofs.Common.{[], ◌∷◌, ◌++◌, map, take, drop, length, get_or, reverse, position}
 use Rattle.std.proofs.Common.{None, Some, Result, Ok, Err, IsTrue, refl, sym, ap, subst, ◌∙◌}
@@ -39,7 +39,7 @@ use Rattle.pp_machine.proofs.Removing.{differs_not}
 use Rattle.pp_machine.proofs.Showing.{differing_shown}
 use Rattle.pp_machine.proofs.Telling.{differing, differing_fits, other}
 
--- ids that stand twice
+-- Ids that occur twice.
 module _ {Op : Type 0} where
   not_there : (p : Item Op) (l : List (Item Op)) → has_id p.id l ≡ false → (q : Item Op) → In q l → q.id ≡ p.id → ⊥
   not_there p l h q i e =
@@ -58,7 +58,7 @@ module _ {Op : Type 0} where
     | inr (inr i) ↦ n a i.0 (e ∙ ap (λ (z : Item Op). z.id) (only p b i.1))
   ]
 
-  -- Either the ids are distinct and nothing is told, or an entry whose id stands before it.
+  -- Either the ids are distinct and nothing is reported, or the first item whose id occurs before it is reported.
   abbrev Either : List (Item Op) → Detail Op → Type 0
   Either items told = (HasDistinctIds items × (told ≡ Nothing)) ⊎ ((id : ℕ) × (told ≡ Entry id) × TellsFirstRepeated items told)
 
@@ -118,7 +118,7 @@ module _ {Op : Type 0} (items : List (Item Op)) (k : ℕ) (p : Item Op) (lt : k 
   later : (q : Item Op) → In q (drop (k + 1) items) → Before p q items
   later q i = subst (λ (w : List (Item Op)). Before p q w) (sym (cut_there items k p lt is)) (before_right p q (take k items) (p ∷ drop (k + 1) items) (inl (refl, i)))
 
-  -- the id here is none of those that stand behind it
+  -- The id at this position is none of those after it.
   pub differs_from_later : HasDistinctIds items → (ks : List ℕ) → reverse ks ≡ map (λ q. q.id) (drop (k + 1) items) → list_any (λ j. p.id == j) ks ≡ false
   differs_from_later d ks h = false_from_ne_true (list_any (λ j. p.id == j) ks) (λ t.
       let m = from_map (λ (q : Item Op). q.id) p.id (drop (k + 1) items) (subst (λ (w : List ℕ). In p.id w) h (used_in ks p.id (sym t))) in

@@ -1,4 +1,4 @@
--- The evidence of a step shows its first false criterion, and tells operations of the objects.
+-- The evidence of a step shows its first false criterion, and reports operations of the objects.
 use Rattle.std.proofs.Common.{◌≡◌, ◌==◌, ◌&&◌, ◌+◌, ℕ, zero, suc, Bool, true, false, cond, not}
 use Rattle.std.proofs.Common.{filter, find, is_some, IsTrue, List, [], ◌∷◌, ◌++◌, drop, position}
 use Rattle.std.proofs.Common.{slice_get, Option, Some, None, refl, sym, ap, subst, ◌∙◌, add-one}
@@ -49,7 +49,7 @@ use Rattle.pp_machine.proofs.Refuting.{refutes}
 use Rattle.pp_machine.proofs.Testing.{all_pushed, all_stand, fallen, not_all_pushed, not_all_stand}
 use Rattle.pp_machine.proofs.Testing.{stands}
 
--- Where the entry of an id stands, by the place that the evidence begins at.
+-- The position of the entry of an id, by the position at which the evidence begins.
 module _ {Op : Type 0} (l : List (LocalEntry Op)) (d : AreDistinct l) (e : LocalEntry Op) (id : ℕ) (i : In e l) (is : e.id ≡ id) where
   abbrev place : ℕ
   place = position_or_len (λ z. z.id == id) l
@@ -96,7 +96,7 @@ module _ {Op : Type 0} (l : List (LocalEntry Op)) (d : AreDistinct l) (e : Local
   in_behind b j = subst (λ (n : ℕ). In b (drop n l)) (sym (add-one place)) (behind_here (λ (z : LocalEntry Op). z.id) l d place e b at_place j)
 
 module _ {Shape State Op Undo : Type 0} (o : Object Shape State Op Undo) (laws : IsLawful o) (shape : Shape) where
-  -- Beside one another: where the criterion is false, its evidence shows it.
+  -- Criterion by criterion: if the criterion is false, its evidence shows it.
   abbrev Tied : List (Type 0) → List (Detail Op) → List (Detail Op → Type 0) → Type 0
   Tied [] ds Ss = Unit {0}
   Tied (p ∷ ps) [] Ss = ⊥
@@ -114,13 +114,13 @@ module _ {Shape State Op Undo : Type 0} (o : Object Shape State Op Undo) (laws :
   tied_there None f g k h = ((λ n. refl), tt)
   tied_there (Some x) f g k h = ((λ n. refl), h x refl)
 
-  -- an operation that does not go behind an allowed list has another result there
+  -- An operation that does not go after an allowed list has another result there.
   pub other : (id : ℕ) (l : List Op) (op : Op) → IsAllowed o shape l → IsTrue (o.fits shape op) → (IsAllowed o shape (l ++ op ∷ []) → ⊥) → TellsOther o shape l id op (gives_behind o shape id l op)
   other id l op h f n =
       let e = keeps_shape o laws.next_shape (o.start shape) l h ∙ laws.start_shape shape in
       (h, (λ g. n (allowed-append o (o.start shape) l (op ∷ []) h ((subst (λ (z : Shape). IsTrue (o.fits z op)) (sym e) f, g), tt))), refl)
 
-  -- behind a legal entry, the first that differs is the same
+  -- The first entry that differs after a legal entry is also the first one with the legal entry before.
   behind_legal : {E : Type 0} (item_of : E → Item Op) (s : State) (y : E) (l : List E) (id : ℕ) (answer : Answer) → IsLegal o s (item_of y).op → DiffersFrom o item_of (o.next s (item_of y).op) l id answer → DiffersFrom o item_of s (y ∷ l) id answer
   behind_legal {E} item_of s y l id answer h d =
       record {
@@ -157,7 +157,7 @@ module _ {Shape State Op Undo : Type 0} (o : Object Shape State Op Undo) (laws :
         refl,
       )
 
-  -- where not all pairs swap, the first that does not is refuted
+  -- If not all pairs swap, the first that does not is refuted.
   module _ {E : Type 0} (id_of : E → ℕ) (a b : E → Op) (passes : E → Bool) where
     abbrev FirstRefuted : List E → Type 0
     FirstRefuted l =

@@ -66,7 +66,7 @@ module _ {Op : Type 0} where
   abbrev pub fallen : List (SharedEntry Op) → LocalEntry Op → Bool
   fallen G e = is_mark e.mark Pulled && not (stands_committed e.id G)
 
-  -- a pulled entry that has not fallen stands committed
+  -- A pulled entry that has not fallen is committed.
   pub stands : (G : List (SharedEntry Op)) (p : LocalEntry Op) → fallen G p ≡ false → p.mark ≡ Pulled → StandsCommitted p.id G
   stands G p n m =
       let pulled : is_mark p.mark Pulled ≡ true = ap (λ (z : Mark). is_mark z Pulled) m in

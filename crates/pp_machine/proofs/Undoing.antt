@@ -1,4 +1,4 @@
--- What the steps that undo leave behind: UNAPP, UNPUSH and UNPULL.
+-- What the steps that undo leave: UNAPP, UNPUSH and UNPULL.
 use Rattle.std.proofs.Common.{◌≡◌, ◌==◌, ◌<◌, ◌≤◌, ◌+◌, ◌*◌, ◌-◌, ℕ, List, map, length, Option}
 use Rattle.std.proofs.Common.{Some, option_map, position, slice_get, Ok, Err, refl, sym, ap, subst, ◌∙◌}
 use Rattle.std.proofs.Common.{arith}

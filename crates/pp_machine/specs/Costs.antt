@@ -9,20 +9,20 @@ use Rattle.pp_machine.specs.declared.machine.Outcome.{Outcome}
 use Rattle.pp_machine.specs.declared.machine.Outcome.TheVariants.{Done, False}
 use Rattle.pp_machine.specs.Machines.{Seen}
 
--- How many items, from the one of this id to the end and itself counted, have its place. It is 1
--- where there is no such item.
+-- How many items, from the one of this id to the end and itself counted, have its place. It is 1 if
+-- there is no such item.
 abbrev pub from_id : {Op : Type 0} → (Op → ℕ) → ℕ → List (Item Op) → ℕ
 from_id place id [] = 1
 from_id place id (p ∷ ps) =
     cond (p.id == id) (length (filter (λ q. place q.op == place p.op) (p ∷ ps)))
     (from_id place id ps)
 
--- the local log of the transaction, and the empty one where it is not open
+-- the local log of the transaction, and the empty one if it is not open
 abbrev pub log_items : {Op : Type 0} → Option (Tx Op) → List (Item Op)
 log_items None = []
 log_items (Some x) = map item x.local
 
--- What a step costs at most, whatever it answers. A removal may also take back what it applied, and
+-- What a step costs at most, whatever it returns. A removal may also take back what it applied, and
 -- apply all as they were.
 abbrev pub at_most : {Op : Type 0} → (Op → ℕ) → Config Op → Step Op → ℕ
 at_most place c (Begin t p b) = 0
@@ -75,7 +75,7 @@ abbrev pub CostsBy : {Op : Type 0} → (Op → ℕ) → Config Op → Step Op �
 CostsBy place c step Done old new = CostsDone place c step old new
 CostsBy place c step (False n detail) old new = CostsInVain place c step old new
 
--- What a step costs by what it answers.
+-- What a step costs by what it returns.
 abbrev pub Costs : {Shape Op A E : Type 0} → (Op → ℕ) → Seen Shape Op → Step Op →
     Result (A × Outcome Op) E → ℕ → ℕ → Type 0
 Costs place v step (Ok r) old new = CostsBy place v.config step r.1 old new

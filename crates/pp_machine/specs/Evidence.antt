@@ -47,8 +47,8 @@ is_same (answers.Number x) (answers.Truth y) = false
 is_same (answers.Truth x) answers.None = false
 is_same (answers.Truth x) (answers.Number y) = false
 
--- From this state on, the first item whose result differs from what the object gives there, with
--- what it gives.
+-- From this state on, the first item whose result differs from what the object returns there, with
+-- what it returns.
 abbrev pub first_differing : {Shape State Op Undo E : Type 0} → Object Shape State Op Undo →
     (E → Item Op) → State → List E → Detail Op
 first_differing o item_of s [] = Nothing
@@ -57,15 +57,15 @@ first_differing o item_of s (e ∷ l) =
     (first_differing o item_of (o.next s (item_of e).op) l)
     (Gives (item_of e).id (o.gives s (item_of e).op))
 
--- the entries of a local log before the one of this id, and those behind it
+-- the entries of a local log before the one of this id, and those after it
 abbrev pub entries_before : {Op : Type 0} → ℕ → List (LocalEntry Op) → List (LocalEntry Op)
 entries_before id l = take (position_or_len (λ e. e.id == id) l) l
 
 abbrev pub entries_behind : {Op : Type 0} → ℕ → List (LocalEntry Op) → List (LocalEntry Op)
 entries_behind id l = drop (position_or_len (λ e. e.id == id) l + 1) l
 
--- That it is not there has no evidence. Where it is there, this is the evidence of what is asked of
--- it.
+-- If the entry is not there, there is no evidence. If it is, this is the evidence for its
+-- conditions.
 abbrev pub if_there : {A Op : Type 0} → Option A → (A → List (Detail Op)) → List (Detail Op)
 if_there None f = Nothing ∷ []
 if_there (Some x) f = Nothing ∷ f x
@@ -78,7 +78,7 @@ at_number (d ∷ ds) (suc zero) = d
 at_number (d ∷ ds) (suc (suc n)) = at_number ds (suc n)
 
 module _ {Shape State Op Undo : Type 0} (o : Object Shape State Op Undo) where
-  -- The operations that the evidence tells are of the objects of the shape.
+  -- The operations that the evidence shows are of the objects of the shape.
   abbrev pub Fits : Shape → Detail Op → Type 0
   Fits shape Nothing = Unit {0}
   Fits shape (Entry id) = Unit {0}
@@ -88,7 +88,7 @@ module _ {Shape State Op Undo : Type 0} (o : Object Shape State Op Undo) where
       × Each (λ op. IsTrue (o.fits shape op)) context.after
 
 module _ {Shape State Op Undo : Type 0} (o : Object Shape State Op Undo) (shape : Shape) where
-  -- The operation of this id, with what the object gives for it behind these.
+  -- The operation of this id, with what the object returns for it after these.
   abbrev pub gives_behind : ℕ → List Op → Op → Detail Op
   gives_behind id ops op = Gives id (o.gives (state_after o shape ops) op)
 

@@ -1,4 +1,4 @@
--- Proof machinery: what the look-ups in logs answer.
+-- Proof machinery: what the look-ups in logs return.
 use Rattle.std.specs.Prelude.{◌≡◌, ◌≢◌, ◌+◌, slice_get, ℕ, List, Some, length}
 use Rattle.pp_core.specs.declared.entry.LocalEntry.{LocalEntry}
 use Rattle.pp_core.specs.declared.entry.SharedEntry.{SharedEntry}

@@ -1,4 +1,4 @@
--- Proof machinery: what judging a step answers, and what it hands on to the effect.
+-- Proof machinery: what judging a step returns, and what it hands on to the effect.
 use Rattle.std.specs.Prelude.{◌≡◌, ◌==◌, ◌+◌, ◌<◌, length, position, ℕ, Option, Some, Result}
 use Rattle.std.specs.Prelude.{Ok, Err, option_map, slice_get}
 use Rattle.pp_core.specs.Trees.{Tree, tree}
@@ -23,8 +23,8 @@ pub record Refuses {Shape State Op Undo : Type 0} (o : Object Shape State Op Und
   pub not_zero : 0 < refusal.criterion
   pub is_evidence : refusal.detail ≡ evidence o v.shape v.config step refusal.criterion
 
--- What judging a step answers: what its effect needs where each criterion holds, and else why the
--- step is refused.
+-- What judging a step returns: what its effect needs if each criterion holds, and else why the step
+-- is refused.
 abbrev pub Judges : {Shape State Op Undo A : Type 0} → Object Shape State Op Undo → Seen Shape Op →
     Step Op → (A → Type 0) → Result A (Refusal Op) → Type 0
 Judges o v step Needed (Ok found) = Meets (rules_of o v.shape) v.config step × Needed found
@@ -40,8 +40,7 @@ JudgesBegin o v t p result =
 abbrev pub begin_of : {Op : Type 0} → Name → Name → Option Body → Step Op
 begin_of t p body = Begin t p (option_map tree body)
 
--- In the local log of the open transaction t, the entry of this id and mark stands at this
--- position.
+-- In the local log of the open transaction t, the entry of this id and mark is at this position.
 pub record IsAt {Op : Type 0} (c : Config Op) (t : Name) (id : ℕ) (m : Mark) (i : ℕ)
     (e : LocalEntry Op) : Type 0 where
   pub holder : Tx Op
@@ -65,8 +64,8 @@ pub record IsLastAt {Op : Type 0} (c : Config Op) (t : Name) (i : ℕ) : Type 0 
   pub end : i + 1 ≡ length holder.local
   pub own : entry.mark ≡ Unpushed
 
--- UNPUSH finds its entry in the local log, which each pushed one behind it may come before, and in
--- the shared log.
+-- UNPUSH finds its entry in the shared log, and in the local log, where each pushed entry after it
+-- may come before it.
 pub record FindsPushed {Shape State Op Undo : Type 0} (o : Object Shape State Op Undo)
     (v : Seen Shape Op) (t : Name) (id : ℕ)
     (i j : ℕ) : Type 0 where
@@ -91,8 +90,8 @@ JudgesUnpull {Shape} {State} {Op} o v t id (Ok i) =
     (e : LocalEntry Op) × IsAt v.config t id Pulled i e
 JudgesUnpull o v t id (Err refusal) = Refuses o v (Unpull t id) refusal
 
--- What judging hands on where all criteria hold: at PUSH and UNAPP where the entry stands, at PULL
--- the entry.
+-- What judging hands on if all criteria are true: the position of the entry for PUSH and UNAPP, the
+-- entry for PULL.
 abbrev pub JudgesPush : {Shape State Op Undo : Type 0} → Object Shape State Op Undo →
     Seen Shape Op → Name → ℕ →
     Result (ℕ × LocalEntry Op) (Refusal Op) → Type 0

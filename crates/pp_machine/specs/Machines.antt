@@ -18,7 +18,7 @@ pub record Seen (Shape Op : Type 0) : Type 0 where
 abbrev pub stepped : {Shape Op : Type 0} → Seen Shape Op → Step Op → Seen Shape Op
 stepped v step = record { shape = v.shape; config = then v.config step; count = v.count + 1 }
 
--- the open transaction as it stands in a configuration
+-- the open transaction as it is in a configuration
 abbrev pub tx_of : {Shape Op : Type 0} → Open Shape Op → Tx Op
 tx_of x = record { name = x.name; thread = x.thread; body = x.body; local = x.local.1 }
 

@@ -30,38 +30,38 @@ FailsAt (p ∷ ps) (suc zero) = p → ⊥
 FailsAt (p ∷ ps) (suc (suc n)) = FailsAt ps (suc n)
 
 module _ {Shape State Op Undo : Type 0} (o : Object Shape State Op Undo) where
-  -- It tells the entry of this id, and lists which show that b may not move left over a.
+  -- It reports the entry of this id, and lists which show that b may not move left over a.
   abbrev pub TellsRefuted : ℕ → Op → Op → Detail Op → Type 0
   TellsRefuted id a b detail =
       (before : List Op) × (after : List Op) × Refutes o a b before after
       × (detail ≡ Swap id (record { before = before; after = after }))
 
-  -- These operations are allowed, and behind them the object gives another result for the operation
-  -- of this id than the recorded one. It tells the id and that result.
+  -- These operations are allowed, and after them the object returns another result for the
+  -- operation of this id than the recorded one. It reports the id and that result.
   abbrev pub TellsOther : Shape → List Op → ℕ → Op → Detail Op → Type 0
   TellsOther shape ops id op detail =
       IsAllowed o shape ops × (answer_behind o shape ops op ≢ o.recorded op)
       × (detail ≡ Gives id (answer_behind o shape ops op))
 
-  -- It tells the first entry of the log that records another result than the object gives behind
-  -- those before it, which are allowed, and the result that the object gives.
+  -- It reports the first entry of the log that records another result than the object returns after
+  -- those before it, which are allowed, and the result that the object returns.
   abbrev pub TellsFirstOther : {E : Type 0} → (E → Item Op) → Shape → List E → Detail Op → Type 0
   TellsFirstOther item_of shape log detail =
       (id : ℕ) × (answer : Answer) × DiffersFirst o item_of shape log id answer
       × (detail ≡ Gives id answer)
 
-  -- It tells nothing.
+  -- It reports nothing.
   abbrev pub TellsNothing : Detail Op → Type 0
   TellsNothing detail = detail ≡ Nothing
 
-  -- Where it is there, these are shown of what is asked of it.
+  -- If the entry is there, these are shown about its conditions.
   abbrev pub if_there : {A : Type 0} → Option A → (A → List (Detail Op → Type 0)) →
       List (Detail Op → Type 0)
   if_there None f = TellsNothing ∷ []
   if_there (Some x) f = TellsNothing ∷ f x
 
   -- What the evidence of each criterion of a step shows, in the order of the criteria. An entry
-  -- that it tells is the first one that breaks the criterion.
+  -- that it reports is the first one that breaks the criterion.
   abbrev pub facts : Shape → Config Op → Step Op → List (Detail Op → Type 0)
   facts shape c (Begin t p b) = TellsNothing ∷ TellsNothing ∷ []
   facts shape c (App t id op) = if_there (tx t c.opened) λ x.
@@ -123,23 +123,24 @@ module _ {Shape State Op Undo : Type 0} (o : Object Shape State Op Undo) where
   HoldsAtNumber (P ∷ Ps) (suc zero) detail = P detail
   HoldsAtNumber (P ∷ Ps) (suc (suc n)) detail = HoldsAtNumber Ps (suc n) detail
 
-  -- The evidence of the first false criterion shows that it is false, and tells operations of the
+  -- The evidence of the first false criterion shows that it is false, and reports operations of the
   -- objects alone.
   pub record EvidenceLaw (shape : Shape) : Type 0 where
     -- the fact of the first false criterion holds of its evidence
     pub shows : (c : Config Op) (step : Step Op) (n : ℕ) → Sound (rules_of o shape) c
         → IsAsked o shape step → Breaks (rules_of o shape) c step (suc n)
         → HoldsAtNumber (facts shape c step) (suc n) (evidence o shape c step (suc n))
-    -- where the fact of a criterion holds of a detail that tells something, the criterion is false
+    -- if the fact of a criterion holds of a detail that reports something, the criterion is false
     pub refutes : (c : Config Op) (step : Step Op) (n : ℕ) (detail : Detail Op)
         → Sound (rules_of o shape) c
         → HoldsAtNumber (facts shape c step) (suc n) detail → detail ≢ Nothing
         → FailsAt (criteria (rules_of o shape) c step) (suc n)
-    -- the operations that it tells are of the objects
+    -- the operations that it reports are of the objects
     pub fits : (c : Config Op) (step : Step Op) (n : ℕ) → Sound (rules_of o shape) c
         → Fits o shape (evidence o shape c step n)
 
-  -- What the evidence of a step that is refused shows, and that it tells operations of the objects.
+  -- What the evidence of a step that is refused shows, and that it reports operations of the
+  -- objects.
   abbrev pub IsShown : Seen Shape Op → Step Op → Outcome Op → Type 0
   IsShown old step Done = Unit {0}
   IsShown old step (False n detail) =

@@ -1,9 +1,9 @@
--- Meaning: what stands committed in the shared log.
+-- Meaning: what is committed in the shared log.
 use Rattle.std.specs.Prelude.{◌≡◌, ◌==◌, ℕ, Bool, true, false, List, Option, None, Some, find}
 use Rattle.pp_core.specs.declared.entry.SharedEntry.{SharedEntry}
 use Rattle.pp_model.specs.Lists.{In}
 
--- An entry of this id stands committed in the shared log.
+-- An entry of this id is committed in the shared log.
 abbrev pub StandsCommitted : {Op : Type 0} → ℕ → List (SharedEntry Op) → Type 0
 StandsCommitted {Op} id l =
     (g : SharedEntry Op) × In g l × (g.id ≡ id) × (g.committed ≡ true)

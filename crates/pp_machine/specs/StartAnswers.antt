@@ -1,4 +1,4 @@
--- Meaning: what the start of a machine answers, and what its evidence shows.
+-- Meaning: what the start of a machine returns, and what its evidence shows.
 use Rattle.std.specs.Prelude.{◌≡◌, ◌<◌, ℕ, suc, List, [], ◌∷◌, ◌++◌, Some, IsTrue}
 use Rattle.pp_core.specs.declared.entry.Item.{Item}
 use Rattle.pp_model.specs.Config.{Start, first}
@@ -15,7 +15,7 @@ use Rattle.pp_machine.specs.declared.detail.Detail.TheVariants.{Entry}
 use Rattle.pp_machine.specs.declared.machine.Outcome.{Outcome}
 use Rattle.pp_machine.specs.declared.machine.Outcome.TheVariants.{Done, False}
 
--- It tells the first item whose id stands before it.
+-- It reports the first item whose id is before it.
 abbrev pub TellsFirstRepeated : {Op : Type 0} → List (Item Op) → Detail Op → Type 0
 TellsFirstRepeated {Op} items detail =
     (before : List (Item Op)) × (p : Item Op) × (after : List (Item Op))
@@ -41,16 +41,16 @@ module _ {Shape State Op Undo : Type 0} (o : Object Shape State Op Undo) (shape 
     pub shows : (z : Start Op) (n : ℕ) → StartFits z
         → StartBreaks (rules_of o shape) (Some z) (suc n)
         → HoldsAtNumber o (start_facts z) (suc n) (start_evidence o shape z (suc n))
-    -- where the fact of a criterion holds of a detail, the criterion is false
+    -- if the fact of a criterion holds of a detail, the criterion is false
     pub refutes : (z : Start Op) (n : ℕ) (detail : Detail Op)
         → HoldsAtNumber o (start_facts z) (suc n) detail
         → FailsAt (start_criteria (rules_of o shape) (Some z)) (suc n)
-    -- it tells no operation, so what is printed of it is of the objects
+    -- it reports no operation, so what is printed of it is of the objects
     pub fits : (z : Start Op) (n : ℕ) → Fits o shape (start_evidence o shape z n)
 
 module _ {Shape State Op Undo : Type 0} (o : Object Shape State Op Undo) where
-  -- Done comes with the configuration before the first step where each criterion holds, and False
-  -- with the number of the first false one and its evidence, where the machine is as it was.
+  -- `Done` comes with the configuration before the first step if each criterion is true. `False`
+  -- comes with the number of the first false one and its evidence, and the machine is as it was.
   abbrev pub Started : Seen Shape Op → Start Op → Outcome Op → Seen Shape Op → Type 0
   Started old z Done new =
       StartMeets (rules_of o old.shape) (Some z)

@@ -1,4 +1,4 @@
--- Proof machinery: what the parts of the start of a machine answer.
+-- Proof machinery: what the parts of the start of a machine return.
 use Rattle.std.specs.Prelude.{◌≡◌, ◌<◌, ℕ, false, List, map, Option, None, Some, Result}
 use Rattle.std.specs.Prelude.{Ok, Err}
 use Rattle.pp_core.specs.declared.entry.Item.{Item}
@@ -24,7 +24,7 @@ abbrev pub posted : {Op : Type 0} → Name → List (Item Op) → List (SharedEn
 posted tx items = map (as_shared tx false) items
 
 module _ {Shape State Op Undo : Type 0} (o : Object Shape State Op Undo) (shape : Shape) where
-  -- The items are allowed and make a log, or the first of them that differs is told.
+  -- The items are allowed and make a log, or the first of them that differs is reported.
   abbrev pub Posts : Name → List (Item Op) → Result (Shape × List (SharedEntry Op)) (Refusal Op) →
       Type 0
   Posts tx items (Ok log) = IsAllowed o shape (ops items) × (log ≡ (shape, posted tx items))
@@ -37,8 +37,8 @@ module _ {Shape State Op Undo : Type 0} (o : Object Shape State Op Undo) (shape 
     pub not_zero : 0 < refusal.criterion
     pub is_evidence : refusal.detail ≡ start_evidence o shape z refusal.criterion
 
-  -- What judging a start answers: the log of its items where each criterion holds, and else why it
-  -- is refused.
+  -- What judging a start returns: the log of its items if each criterion holds, and else why it is
+  -- refused.
   abbrev pub JudgesStart : Start Op → Result (Shape × List (SharedEntry Op)) (Refusal Op) → Type 0
   JudgesStart z (Ok log) =
       StartMeets (rules_of o shape) (Some z) × (log ≡ (shape, posted z.tx z.items))

@@ -12,7 +12,7 @@ use Rattle.pp_machine.specs.declared.detail.Detail.TheVariants.{Nothing, Entry}
 abbrev pub has_id : {Op : Type 0} → ℕ → List (Item Op) → Bool
 has_id id items = list_any (λ p. p.id == id) items
 
--- Of these items, which stand behind others, the first whose id stands before it.
+-- Of these items, which are after others, the first whose id is before it.
 abbrev pub first_repeated : {Op : Type 0} → List (Item Op) → List (Item Op) → Detail Op
 first_repeated before [] = Nothing
 first_repeated before (p ∷ ps) =

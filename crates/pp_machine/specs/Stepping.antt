@@ -1,4 +1,4 @@
--- Meaning: what a step answers.
+-- Meaning: what a step returns.
 use Rattle.std.specs.Prelude.{◌≡◌, ◌<◌, Result}
 use Rattle.std.specs.Prelude.{IfOk, IsTrue}
 use Rattle.pp_core.specs.Trees.{IsWithinLimits}
@@ -26,8 +26,8 @@ IsAsked o shape (Cmt t) = Unit {0}
 IsAsked o shape (Quit t) = Unit {0}
 IsAsked o shape (Note t) = Unit {0}
 
--- Done comes with the effect where each criterion holds, and False with the number of the first
--- false one and its evidence, where the machine is as it was.
+-- `Done` comes with the effect if each criterion is true. `False` comes with the number of the
+-- first false one and its evidence, and the machine is as it was.
 abbrev pub Stepped : {Shape State Op Undo : Type 0} → Object Shape State Op Undo → Seen Shape Op →
     Step Op → Outcome Op → Seen Shape Op → Type 0
 Stepped o old step Done new =
@@ -36,7 +36,7 @@ Stepped o old step (False n detail) new =
     Breaks (rules_of o old.shape) old.config step n × (0 < n) × (new ≡ old)
     × (detail ≡ evidence o old.shape old.config step n)
 
--- What doing a step answers, unless memory was refused: the machine behind it, and its outcome.
+-- What doing a step returns, unless memory ran out: the machine after the step, and its outcome.
 abbrev pub Does : {Shape State Op Undo E : Type 0} → Object Shape State Op Undo → Seen Shape Op →
     Step Op →
     Result (Seen Shape Op × Outcome Op) E → Type 0

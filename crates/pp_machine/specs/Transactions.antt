@@ -71,8 +71,8 @@ abbrev pub open_of : {Shape Op : Type 0} → Name → Name → Option Tree →
     Shape × List (LocalEntry Op) → Open Shape Op
 open_of n p b l = record { name = n; thread = p; body = b; local = l }
 
--- What the transactions keep: names told apart, and the set of the threads that are busy, told
--- apart too.
+-- What the transactions keep: distinct names, and the set of the busy threads, which are distinct
+-- too.
 pub record Kept (names threads busy : List Name) : Type 0 where
   pub names_apart : (s t : Name) → Before s t names → s ≢ t
   pub busy_apart : (p q : Name) → Before p q busy → p ≢ q
@@ -86,7 +86,7 @@ pub record Takes {Shape State Op Undo : Type 0} (o : Object Shape State Op Undo)
   pub new : position (λ e. e.id == entry.id) log.1 ≡ None
   pub few : length log.1 < MOST_OPERATIONS
 
--- At this position of the local log stands an own entry.
+-- At this position of the local log is an own entry.
 pub record HasOwn {Op : Type 0} (log : List (LocalEntry Op)) (i : ℕ) : Type 0 where
   pub within : i < length log
   pub entry : LocalEntry Op

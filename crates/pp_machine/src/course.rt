@@ -156,14 +156,14 @@ impl<S: Parted> Course<S> {
                   (self.old.local.0, set_mark e.id mark self.old.local.1);
             } }
     {
-        // It stands here for what its clauses say of each log.
+        // It is here for what its clauses say of each log.
         let _distinct = self.walked.log.len();
         self.walked.log.mark(i, mark);
     }
 
     /// The course without an entry of its local log, unless the list without it is not allowed. The
-    /// walk gives back the call of an own one. The only error is that memory was refused, and the
-    /// course is then lost.
+    /// walk returns to the position before the call if the entry is own. The only error is out of
+    /// memory, and the course is then lost.
     pub fn without<L: Ledger>(
         self,
         i: usize,

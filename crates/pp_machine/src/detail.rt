@@ -7,8 +7,8 @@ use pp_kind::{Context, Spec};
 use std::alloc::Global;
 use std::marker::Model;
 
-/// Operations round a pair that does not swap, as one pointer: each step hands on what it answers,
-/// and few answer such a pair. Contracts see it as the operations.
+/// Operations before and after a pair that does not swap, as one pointer. Each step returns it, and
+/// it is rarely present. Contracts see it as the operations.
 #[derive(Drop)]
 pub struct BoxedContext<O> {
     context: Box<Context<O>>,
@@ -26,7 +26,7 @@ impl<O> Model for BoxedContext<O> {
 }
 
 impl<O: Drop> BoxedContext<O> {
-    /// These operations. The only error is that memory was refused.
+    /// These operations. The only error is out of memory.
     fn new(alloc: Global, context: Context<O>) -> Result<BoxedContext<O>, OutOfMemory>
         ensures { IfOk result (λ boxed. boxed ≡ context) }
     {
@@ -49,7 +49,7 @@ pub enum Detail<O> {
     Nothing,
     /// The first entry that breaks it.
     Entry { id: u32 },
-    /// The first operation whose recorded result is not the one that the object gives there.
+    /// The first operation whose recorded result is not the one that the object returns there.
     Gives { id: u32, answer: Answer },
     /// The first entry whose pair does not swap, and operations round the pair that show it.
     Swap { id: u32, context: BoxedContext<O> },
@@ -62,7 +62,7 @@ pub struct Refusal<O> {
     pub detail: Detail<O>,
 }
 
-/// What judging a step answers where it may take memory.
+/// What judging a step returns, if it may take memory.
 pub type Judged<A, O> = Result<Result<A, Refusal<O>>, OutOfMemory>;
 
 /// The refusal by a criterion that has no evidence.
@@ -82,8 +82,8 @@ pub fn told<O>(criterion: u8, detail: Detail<O>) -> Refusal<O>
     Refusal { criterion, detail }
 }
 
-/// The evidence that the pair of the entry of this id does not swap. The only error is that memory
-/// was refused.
+/// The evidence that the pair of the entry of this id does not swap. The only error is out of
+/// memory.
 pub fn swap_detail<S: Spec>(
     alloc: Global,
     id: u32,

@@ -92,7 +92,7 @@ pub fn first_unpushed<O: Copy>(entries: &[LocalEntry<O>]) -> Option<usize>
         .position(|entry| is_mark(entry.mark, Mark::Unpushed))
 }
 
-/// Whether the entry of this id stands committed.
+/// Whether the entry of this id is committed.
 fn stands_committed<S: Parted>(shared: &Shared<S>, id: u32) -> bool
     ensures { result ≡ stands_committed id shared.now.1 }
 {
@@ -105,7 +105,7 @@ fn stands_committed<S: Parted>(shared: &Shared<S>, id: u32) -> bool
     entry.committed
 }
 
-/// The position of the first pulled entry that does not stand committed.
+/// The position of the first pulled entry that is not committed.
 pub fn first_not_standing<S: Parted>(
     entries: &[LocalEntry<S::Op>],
     shared: &Shared<S>,

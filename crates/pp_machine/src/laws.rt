@@ -46,21 +46,22 @@ pub fn alone_law<S: Spec>()
     ensures { (shape : S.Shape) → AloneLaw (rules_of S.object shape) }
 {}
 
-/// A run has one verdict at most, and is accepted exactly where the start and each step meet their
+/// A run has one verdict at most, and is accepted exactly if the start and each step meet their
 /// criteria.
 pub fn verdict_law<S: Spec>()
     ensures { (shape : S.Shape) → VerdictLaw (rules_of S.object shape) }
 {}
 
-/// What is shown of the evidence of a criterion holds of that of the first false one. Where it
-/// holds of a detail that tells something, the criterion is false. Evidence tells operations of
-/// the objects alone.
+/// What is shown about the evidence of each criterion is true for the evidence of the first false
+/// one. If it is true for a detail that reports something, the criterion is false. Evidence reports
+/// operations of the objects alone.
 pub fn evidence_law<S: Spec>()
     ensures { (shape : S.Shape) → EvidenceLaw S.object shape }
 {}
 
-/// What is shown of the evidence of a criterion of a start holds of that of the first false one.
-/// Where it holds of a detail, the criterion is false. The evidence of a start tells no operation.
+/// What is shown about the evidence of each criterion of a start is true for the evidence of the
+/// first false one. If it is true for a detail, the criterion is false. The evidence of a start
+/// reports no operation.
 pub fn start_evidence_law<S: Spec>()
     ensures { (shape : S.Shape) → StartEvidenceLaw S.object shape }
 {}

@@ -64,7 +64,7 @@ struct Parts<S: Parted> {
 }
 
 /// The machine: the transactions with their local logs, the shared log, and the committed
-/// transactions. It is one pointer, since each step takes it and gives it back.
+/// transactions. It is one pointer, since each step takes it and returns it.
 #[derive(Drop)]
 pub struct Machine<S: Parted> {
     parts: Box<Parts<S>>,
@@ -90,7 +90,7 @@ impl<S: Parted> Model for Machine<S> {
 }
 
 impl<S: Parted> Machine<S> {
-    /// A machine with no transaction and empty logs. The only error is that memory was refused.
+    /// A machine with no transaction and empty logs. The only error is out of memory.
     pub fn new(alloc: Global, shape: S::Shape) -> Result<Self, OutOfMemory>
         ensures { IfOk result (λ m. m ≡ record { shape = shape; config = first None; count = 0 }) }
     {
@@ -154,9 +154,9 @@ impl<S: Parted> Machine<S> {
         &self.parts.committed
     }
 
-    /// Does a step where each of its criteria holds, and else gives the machine back as it was,
-    /// with what shows that a criterion is false. The only error is that memory was refused, and
-    /// the machine is then lost.
+    /// Does a step if each of its criteria holds, and else returns the machine as it was, with what
+    /// shows that a criterion is false. The only error is out of memory, and the machine is then
+    /// lost.
     pub fn step<L: Ledger>(
         self,
         step: &Step<S::Op>,
@@ -171,7 +171,7 @@ impl<S: Parted> Machine<S> {
         ensures bound { ticks.new ≤ ticks.old + at_most S.place_of self.config (meaning step.now) }
         ensures sure { NeedsNoMemory (meaning step.now) → IsOk result }
     {
-        // It stands here for what its clauses say of each machine.
+        // It is here for what its clauses say of each machine.
         let _sound = self.count();
         match step {
             Step::Begin { tx, thread, body } => self.begin(tx, thread, body),

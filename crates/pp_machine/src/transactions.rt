@@ -31,8 +31,8 @@ pub struct OpenTx<T> {
     pub course: T,
 }
 
-/// The transactions of a run: the names begun, and those that are open. An open transaction stands
-/// in a box, so that the slot of a name that has ended is narrow.
+/// The transactions of a run: the names begun, and those that are open. An open transaction is in a
+/// box, so that the slot of a name that has ended is narrow.
 #[derive(Drop)]
 pub struct Transactions<S: Parted> {
     slots: IndexMap<Name, Option<Box<OpenTx<Course<S>>>>>,
@@ -92,7 +92,7 @@ fn fill<T: Drop>(slot: &mut Option<Box<OpenTx<T>>>, begun: Box<OpenTx<T>>)
 }
 
 /// An open transaction without an entry of its local log, unless the list without it is not
-/// allowed. The only error is that memory was refused, and the transaction is then lost.
+/// allowed. The only error is out of memory, and the transaction is then lost.
 fn without<S: Parted, L: Ledger>(
     begun: Box<OpenTx<Course<S>>>,
     i: usize,
@@ -148,7 +148,7 @@ impl<S: Parted> Transactions<S> {
         Some(course.local())
     }
 
-    /// The course of an open transaction, behind the position of its slot.
+    /// The course of an open transaction, with the position of its slot.
     pub fn course_at(&self, tx: &Name) -> Option<(usize, &Course<S>)>
         ensures course { option_map (λ r. r.1.now) result
             ≡ option_map course_of (open_at tx.now self.now.opened) }
@@ -220,8 +220,8 @@ impl<S: Parted> Transactions<S> {
     }
 
     /// Takes an entry out of the local log of the open transaction whose slot is at a position,
-    /// unless the list without it is not allowed. The only error is that memory was refused, and
-    /// the transaction is then no longer open.
+    /// unless the list without it is not allowed. The only error is out of memory, and the
+    /// transaction is then no longer open.
     pub fn remove_at<L: Ledger>(
         &mut self,
         place: usize,

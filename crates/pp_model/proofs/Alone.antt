@@ -130,7 +130,7 @@ pulls {Op} O t p b N I F G A m (g ∷ H) K e rest r =
         ∙ append_assoc (shared_ops K) (g.op ∷ shared_ops H) (ops A) ∙ sym (append_assoc (shared_ops K) (g.op ∷ []) (shared_ops H ++ ops A)))
         m.allowed)
 
--- what stands in its log, and in G, when it has applied and pushed A
+-- What is in its log, and in G, when it has applied and pushed A.
 abbrev pub log_of : {Op : Type 0} → Name → List (SharedEntry Op) → List (Item Op) → List (LocalEntry Op)
 log_of t G A = map pull_entry G ++ map (push_entry t) A
 

@@ -29,7 +29,7 @@ own_marked : {Op : Type 0} (t : Name) (e : LocalEntry Op) → OwnedAsMarked t e 
 own_marked t e (inl z) o = z.1
 own_marked t e (inr z) o = absurd (let y : true ≡ false = sym o ∙ ap is_own z.0 in cc)
 
--- what stands for t is owned by t
+-- What is recorded for t is owned by t.
 stands_owned : {Op State : Type 0} (O : Object Op State) (c : Config Op) → Sound O c → (t : Name) (p : Item Op) → StandsFor c t p → Owns c t p
 stands_owned {Op} O c s t p (inl h) =
     let e = h.3.0 in

@@ -12,7 +12,7 @@ use Rattle.pp_model.specs.Lists.{In}
 use Rattle.pp_model.proofs.Lists.{in_cases, in_left, in_right}
 use Rattle.pp_model.proofs.Logs.{found}
 
--- what stands at a place
+-- What is at a place.
 pub stands_in : {A : Type 0} (x : List A) (i : ℕ) (a : A) → slice_get x i ≡ Some a → In a x
 stands_in [] i a h = cc
 stands_in (b ∷ x) zero a h = inl cc

@@ -14,7 +14,7 @@ use Rattle.pp_model.proofs.Serial.{items, ordered, reorders, target}
 pub length-ops : {Op : Type 0} (l : List (Item Op)) → length (ops l) ≡ length l
 length-ops {Op} l = length-map l (λ (p : Item Op). p.op)
 
--- a list with distinct ids whose items all stand in another is no longer than that
+-- A list with distinct ids whose items all are in another is no longer than that.
 pub no_longer : {Op : Type 0} (xs ys : List (Item Op)) → HasDistinctIds xs → ((p : Item Op) → In p xs → In p ys) → length xs ≤ length ys
 no_longer [] ys distinct within = omega arith
 no_longer {Op} (x ∷ xs) ys distinct within =

@@ -126,7 +126,7 @@ pub one_entry : {Op State : Type 0} (O : Object Op State) (c : Config Op) → So
 one_entry {Op} O c s x w i k n e a j m z =
     by_key (λ (b : LocalEntry Op). b.id) x.local (s.local_ids x i) a e (subst (λ (b : Tx Op). In a b.local) (one_open O c s x w i k n) m) j z
 
--- an own entry of an open transaction stands in G only where it is pushed
+-- An own entry of an open transaction is in G only if it is pushed.
 standing : {Op State : Type 0} (O : Object Op State) (c : Config Op) → Sound O c → (x : Tx Op) → In x c.opened → (e : LocalEntry Op) → In e x.local → is_own e.mark ≡ true →
     (g : SharedEntry Op) → In g c.shared → g.id ≡ e.id → (b : Bool) → g.committed ≡ b → e.mark ≡ Pushed
 standing {Op} O c s x i e j o g k n true u =
@@ -144,7 +144,7 @@ standing {Op} O c s x i e j o g k n false u =
 pub stands_pushed : {Op State : Type 0} (O : Object Op State) (c : Config Op) → Sound O c → (x : Tx Op) → In x c.opened → (e : LocalEntry Op) → In e x.local → is_own e.mark ≡ true → Stands e.id c.shared → e.mark ≡ Pushed
 stands_pushed O c s x i e j o h = standing O c s x i e j o h.0 h.1 h.2 (h.0).committed refl
 
--- what stands in a longer log
+-- What is in a longer log.
 stands_wider : {Op : Type 0} (i : ℕ) (G : List (SharedEntry Op)) (g : SharedEntry Op) → Stands i G → Stands i (G ++ g ∷ [])
 stands_wider i G g h = (h.0, in_left h.0 G (g ∷ []) h.1, h.2)
 

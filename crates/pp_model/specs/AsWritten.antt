@@ -13,7 +13,7 @@ use Rattle.pp_model.specs.Names.{Name}
 abbrev pub AllDistinct : {A : Type 0} → List A → Type 0
 AllDistinct {A} xs = (x y : A) → Before x y xs → x ≢ y
 
--- the item p stands as an own entry of t, in G with the owner t, or in done under t
+-- the item p is as an own entry of t, in G with the owner t, or in done under t
 abbrev pub StandsFor : {Op : Type 0} → Config Op → Name → Item Op → Type 0
 StandsFor {Op} c t p =
     ((x : Tx Op) × In x c.opened × (x.name ≡ t)

@@ -34,8 +34,7 @@ pub record Config (Op : Type 0) : Type 0 where
   -- in commit order
   pub done : List (CommittedTx Op)
 
--- What a header gives: the transaction that stands committed before the first step, if there is
--- one.
+-- What a header gives: the transaction that is committed before the first step, if there is one.
 pub record Start (Op : Type 0) : Type 0 where
   pub tx : Name
   pub items : List (Item Op)
@@ -62,7 +61,7 @@ local_ops l = map (λ e. e.op) l
 abbrev pub shared_ops : {Op : Type 0} → List (SharedEntry Op) → List Op
 shared_ops l = map (λ g. g.op) l
 
--- the item p of t, as it stands in the shared log
+-- the item p of t, as it is in the shared log
 abbrev pub as_shared : {Op : Type 0} → Name → Bool → Item Op → SharedEntry Op
 as_shared t b p = record { id = p.id; owner = t; committed = b; op = p.op }
 
@@ -152,7 +151,7 @@ first (Some z) =
       done = record { name = z.tx; entries = z.items } ∷ [];
     }
 
--- the effect of a PUSH, a PULL and a CMT, each with what it finds; where it finds nothing, none
+-- the effect of a PUSH, a PULL and a CMT, each with what it finds; if it finds nothing, none
 abbrev pub push_effect : {Op : Type 0} → Config Op → Name → ℕ → Option (LocalEntry Op) → Config Op
 push_effect c t id None = c
 push_effect c t id (Some e) =

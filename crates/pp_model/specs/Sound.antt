@@ -13,7 +13,7 @@ use Rattle.pp_model.specs.Names.{Name}
 abbrev pub Stands : {Op : Type 0} → ℕ → List (SharedEntry Op) → Type 0
 Stands {Op} i G = (g : SharedEntry Op) × In g G × (g.id ≡ i)
 
--- the first id stands in G before the second
+-- the first id is in G before the second
 abbrev pub StandsBefore : {Op : Type 0} → ℕ → ℕ → List (SharedEntry Op) → Type 0
 StandsBefore {Op} i j G = (g h : SharedEntry Op) × Before g h G × (g.id ≡ i) × (h.id ≡ j)
 
@@ -23,11 +23,11 @@ Owns {Op} c t p =
     ((x : Tx Op) × In x c.opened × (x.name ≡ t) × In p (own_items x.local))
     ⊎ ((d : CommittedTx Op) × In d c.done × (d.name ≡ t) × In p d.entries)
 
--- in the commit order t stands after u
+-- in the commit order t is after u
 abbrev pub CommittedAfter : {Op : Type 0} → List (CommittedTx Op) → Name → Name → Type 0
 CommittedAfter {Op} D t u = (d e : CommittedTx Op) × Before d e D × (d.name ≡ u) × (e.name ≡ t)
 
--- an entry of t's local log is own exactly where its owner is t
+-- an entry of t's local log is own exactly if its owner is t
 abbrev pub OwnedAsMarked : {Op : Type 0} → Name → LocalEntry Op → Type 0
 OwnedAsMarked t e = ((is_own e.mark ≡ true) × (e.owner ≡ t)) ⊎ ((e.mark ≡ Pulled) × (e.owner ≢ t))
 
@@ -39,8 +39,7 @@ abbrev pub serial_ops : {Op : Type 0} → List (CommittedTx Op) → List Op
 serial_ops D = ops (serial_items D)
 
 module _ {Op State : Type 0} (O : Object Op State) where
-  -- of an own list: for a before b, if b is in G and a is not there or stands after b, then b, a
-  -- swap
+  -- of an own list: for a before b, if b is in G and a is not, or is after b, then b and a swap
   abbrev pub KeepsOrder : List (SharedEntry Op) → List (Item Op) → Type 0
   KeepsOrder G xs =
       (a b : Item Op) → Before a b xs → Stands b.id G →
@@ -66,7 +65,7 @@ module _ {Op State : Type 0} (O : Object Op State) where
     pub done_used : (d : CommittedTx Op) → In d c.done → (p : Item Op) → In p d.entries →
         In p.id c.ids
     pub one_owner : (t u : Name) (p q : Item Op) → Owns c t p → Owns c u q → p.id ≡ q.id → t ≡ u
-    -- 2 what stands in G
+    -- 2 what is in G
     pub pushed_stand : (x : Tx Op) → In x c.opened → (e : LocalEntry Op) → In e x.local →
         e.mark ≡ Pushed → In (as_shared x.name false (item e)) c.shared
     pub done_stand : (d : CommittedTx Op) → In d c.done → (p : Item Op) → In p d.entries →

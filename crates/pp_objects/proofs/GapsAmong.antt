@@ -52,7 +52,7 @@ same_there x u leaves ss is h kept =
     (leaves t.0 (is x.object t.0 t.1) t.2 (sym (kept_there ss x t.0 t.1) ∙ kept))
     ∙ set_own ss x.object t.0 t.1
 
--- the object that was there before, among those behind the operation
+-- The object that was there before, among those after the operation.
 put_back : (ss : List ObjectState) (x : Op) (s : ObjectState) → slice_get ss x.object ≡ Some s
     → ss ≡ set (objects.next ss x) x.object s
 put_back ss x s e =
@@ -96,7 +96,7 @@ beside g x ss ts s e is d =
           (same_some d.0 s (sym d.2 ∙ e)) d.4;
     }
 
--- the two behind the operation
+-- The two after the operation.
 next_beside : (g : ActGap) (x : Op) (ss ts : List ObjectState) (s : ObjectState)
     (b : IsBeside g x ss ts s) → slice_get ss x.object ≡ Some s
     → objects.next ts x ≡ set (objects.next ss x) x.object (one.next b.other x.act)
@@ -164,7 +164,7 @@ crosses_same_there g u x crosses ss is legal =
           meets_there g x u ss ts t.0 b t.1 (c.1 b.other b.state b.differ)),
     )
 
--- The same of what the object alone answers.
+-- The same about the result of the object alone.
 pub same_left : (x : Op) (u : Undo) (r : Left ActGap) → r ≡ left.Same
     → Leaves one OneBears OneDiffer x.act u r → Leaves objects Bears Differ x u left.Same
 same_left x u r e h =

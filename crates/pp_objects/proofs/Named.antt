@@ -46,7 +46,7 @@ module _ {X : Type 0} (word_of : X → List ℕ) (word : List ℕ) where
   none [] x h m = m.0
   none (y ∷ ys) x h m = neither x y ys (bytes_eq word (word_of y)) refl (none ys x) h m
 
-  -- the search ends at the first item with this word, and goes on behind any other
+  -- The search ends at the first item with this word, and goes on after any other.
   pub ends : (xs : List X) (i : ℕ) (x : X) (total : Option X) → i < length xs → bytes_eq word (word_of (get_or xs i x)) ≡ true
       → named word_of (drop i xs) word ≡ total → Some (get_or xs i x) ≡ total
   ends xs i x total lt is so_far =

@@ -1,5 +1,4 @@
--- Proof machinery: an addition to a counter stands for all others there, and each operation for its
--- equals.
+-- Proof machinery: an addition to a counter represents all others there, and every other operation represents its equals.
 use Rattle.std.proofs.Common.{◌≡◌, ℕ, ℤ, pos, Bool, true, false, int_eq, not, refl, sym, subst}
 use Rattle.std.proofs.Common.{inl, inr, ◌⊎◌, arith}
 use Rattle.std.proofs.lemmas.Int.{ints}
@@ -62,7 +61,7 @@ module _ (k : Kind) (a b : Ops k) (stands : StandsFor (object_of k) a b) where
       subst P (sym (only_kind k q b e)) there c h
   behind_by q c false e h = others_swap q c (act_of k b) e
 
-  -- what stands for another in its kind does so among all acts
+  -- What represents another in its kind does so among all acts.
   stands_in : StandsFor one (act_of k a) (act_of k b)
   stands_in = (
     (λ c h. before_by c (one.fits k c) refl h),
@@ -92,7 +91,7 @@ module _ (p : ℕ) (a b : Act) (stands : StandsFor one a b) where
   place_behind c (inr apart) h = places.others_swap one one_lawful c (act_at p b)
       (λ e. apart (sym e))
 
-  -- what stands for another act does so at each place
+  -- What represents another act does so at each place.
   stands_at : StandsFor objects (act_at p a) (act_at p b)
   stands_at = (
     (λ c h. place_before c (same_place p c.object) h),
@@ -104,13 +103,13 @@ act_stands (Counter (Add d)) (Counter (Add e)) t =
     stands_in kinds.Counter (Add d) (Add e) (add_stands d e t)
 act_stands a b t = absurd (cc)
 
--- An addition stands for the others of its place, and each operation for itself.
+-- An addition represents the others of its place, and every other operation represents its equals.
 pub addition_stands : (a b : Op) → a.object ≡ b.object → both_add a.act b.act ≡ true
     → StandsFor objects a b
 addition_stands a b e t = subst (λ (p : ℕ). StandsFor objects a (act_at p b.act)) e
     (stands_at a.object a.act b.act (act_stands a.act b.act t))
 
--- An operation stands for each operation with its object and its act.
+-- An operation represents each operation with its object and its act.
 pub equal_stands : (a b : Op) → a.object ≡ b.object → a.act ≡ b.act → StandsFor objects a b
 equal_stands a b e f =
     let there : StandsFor objects a (act_at a.object b.act) =

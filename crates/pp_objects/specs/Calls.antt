@@ -156,7 +156,7 @@ pub record IsOpOf (kind : Kind) (c : Call) (answer : Answer) (op : Op) : Type 0 
   pub ranged : IsTrue (objects.ranged op)
 
 -- the act of a call on a memory, if a memory has the method and the result is of the form that the
--- method gives; and so for each kind
+-- method returns; and so for each kind
 abbrev pub memory_act : Method → Call → Answer → Option Act
 memory_act methods.Read c (answers.Number value) = Some (Memory (mem.Read c.first value))
 memory_act methods.Read c answers.None = None

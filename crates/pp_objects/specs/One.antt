@@ -114,7 +114,7 @@ recorded_by (Queue a) = fifo.recorded a
 recorded_by (Stack a) = stack.recorded a
 recorded_by (PriorityQueue a) = prio.recorded a
 
--- the result that an object gives for an act of its kind
+-- the result that an object returns for an act of its kind
 abbrev pub given_by : ObjectState → Act → Answer
 given_by (states.Memory s) (Memory a) = memory.gives s a
 given_by (states.Memory s) act = NoAnswer

@@ -37,7 +37,7 @@ impl OneObject {
         }
     }
 
-    /// The gap behind a further act.
+    /// The gap after a further act.
     #[inline(always)]
     pub fn cross(gap: &ActGap, op: &Act) -> Crossed<ActGap, Undo>
         ensures { Crosses one OneBears OneDiffer gap.now op.now result }

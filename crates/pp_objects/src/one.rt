@@ -155,8 +155,8 @@ impl OneObject {
         }
     }
 
-    /// Whether an act and one that it lets pass keep in turn what takes them back, as what the other
-    /// one keeps tells. Only acts on a memory keep anything.
+    /// Whether an act, and one that may move past it, exchange their undo values in the other
+    /// order. The undo value of the other one decides this. Only acts on a memory keep one.
     #[inline(always)]
     pub fn keep_in_turn(a: &Act, kept: &Undo) -> bool
         ensures { (b : Act) → MayKeep one b kept.now → Swaps one a.now b

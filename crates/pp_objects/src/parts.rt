@@ -1,4 +1,4 @@
-//! What operations are about, and which stand for others.
+//! What operations are about, and which represent others.
 ghost use Rattle.std.specs.Prelude.{◌≡◌, IsTrue};
 ghost use Rattle.pp_kind.specs.Parts.{IsGate, StandsFor};
 ghost use Rattle.pp_objects.specs.Objects.{objects};
@@ -108,8 +108,8 @@ fn is_same(a: &Act, b: &Act) -> bool
     }
 }
 
-/// Whether the first is known to stand for the second: an addition to a counter stands for all
-/// others there, unless it adds 0, and every operation for its equals.
+/// Whether the first is known to represent the second. An addition to a counter represents all
+/// others there, unless it adds 0. Every other operation represents its equals.
 fn may_stand_for(a: &Op, b: &Op) -> bool
     ensures { IsTrue result → StandsFor objects a.now b.now }
 {
@@ -175,7 +175,7 @@ fn label(act: &Act) -> Label
     }
 }
 
-/// Which acts of a form are known to swap with this one behind them, by their numbers. Those of
+/// Which acts of a form are known to swap with this one after them, by their numbers. Those of
 /// other kinds always do.
 #[inline]
 fn gate(form: usize, act: &Act) -> Gate

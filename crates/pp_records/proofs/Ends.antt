@@ -89,7 +89,7 @@ ends_once O c (s ∷ ss) a b (inr x) (inl y) = absurd (never O c s.what y.0 x.0 
 ends_once {Op} O c (s ∷ ss) a b (inr x) (inr y) =
     x.1.2 ∙ ap (λ (w : List (Lined (Step Op))). s ∷ w) (ends_once O (then c s.what) ss x.1.0 y.1.0 x.1.1 y.1.1) ∙ sym y.1.2
 
--- behind steps that hold
+-- After steps that hold.
 pub ends_behind : {Op State : Type 0} (O : Object Op State) (c : Config Op) (xs ys rest : List (Lined (Step Op))) → RunsFrom O c (bare xs) →
     EndsAtFailure O (after_from c (bare xs)) ys rest → EndsAtFailure O c (xs ++ ys) (xs ++ rest)
 ends_behind O c [] ys rest r e = e
@@ -171,7 +171,7 @@ rejected_here O i c (x ∷ xs) s ys n r f =
     let at : suc i + length xs ≡ i + length (x ∷ xs) = omega arith in
     inr (r.0, subst (λ (k : ℕ). IsVerdictFrom O (suc i) (then c x) (xs ++ s ∷ ys) (Rejected k (suc n))) at (rejected_here O (suc i) (then c x) xs s ys n r.1 f))
 
--- where a step fails, steps behind change nothing
+-- If a step fails, steps after change nothing.
 pub failed_stays : {Op State : Type 0} (O : Object Op State) (i : ℕ) (c : Config Op) (ss ys run : List (Lined (Step Op))) (j n : ℕ) → EndsAtFailure O c ss run →
     IsVerdictFrom O i c (bare run) (Rejected j n) → EndsAtFailure O c (ss ++ ys) run
 failed_stays {Op} O i c [] ys run j n e v =
@@ -219,7 +219,7 @@ pub failing_first : {Op State : Type 0} (O : Object Op State) (most : ℕ) (c : 
     length xs < most → Breaks O (after_from c (bare xs)) s.what (suc n) → HasOneMore O most c (xs ++ s ∷ ys) line → ⊥
 failing_first O most c xs ys s n line l f m = not_within O c m.before xs (m.next ∷ m.behind) ys s n m.parts (subst (λ (w : ℕ). length xs < w) (sym m.count) l) m.hold f
 
--- more steps behind
+-- If this many steps hold and one more is on a line, that is so also with further steps after them.
 pub more_behind : {Op State : Type 0} (O : Object Op State) (most : ℕ) (c : Config Op) (ss ys : List (Lined (Step Op))) (line : ℕ) → HasOneMore O most c ss line → HasOneMore O most c (ss ++ ys) line
 more_behind {Op} O most c ss ys line m =
     record {

@@ -20,14 +20,14 @@ on_line_append : {A : Type 0} (line : ℕ) (xs ys : List A) → on_line line (xs
 on_line_append {A} line xs ys = map-append (λ (s : A). let z : Lined A = record { line = line; what = s } in z) xs ys
 
 module _ {F R Op State : Type 0} (O : Object Op State) (T : Translation F R Op) where
-  -- the records, one of which stands behind the first ones
+  -- The records, one of which is after the first ones.
   joined_at : (h : Option (Start Op)) (rs more : List (Lined R)) (p : Standing F Op) (r : Lined R) → p ≡ after_records T (outset T h) rs →
       joined_steps T (outset T h) (rs ++ r ∷ more) ≡ joined_steps T (outset T h) rs ++ (on_line r.line (steps_at T p r.what) ++ joined_steps T (after_record T p r.what) more)
   joined_at h rs more p r e =
       joined_more O T (outset T h) rs (r ∷ more)
       ∙ ap (λ (w : Standing F Op). joined_steps T (outset T h) rs ++ (on_line r.line (steps_at T w r.what) ++ joined_steps T (after_record T w r.what) more)) (sym e)
 
-  -- where the run stands after some steps of a record
+  -- where the run is after some steps of a record
   record Within (h : Option (Start Op)) (p : Standing F Op) (count : ℕ) (before : List (Step Op)) (xs : List (Lined (Step Op))) : Type 0 where
     pub hold : RunsFrom O (first h) (bare xs)
     pub config : after_from (first h) (bare xs) ≡ after_from p.config before
@@ -62,7 +62,7 @@ module _ {F R Op State : Type 0} (O : Object Op State) (T : Translation F R Op) 
         few = few;
       }
 
-  -- the steps of all records, of which one more stands behind those within
+  -- The steps of all records, of which one more is after those within.
   parted_at : (h : Option (Start Op)) (rs more : List (Lined R)) (p : Standing F Op) (r : Lined R) (before behind : List (Step Op)) (step : Step Op) →
       p ≡ after_records T (outset T h) rs → steps_at T p r.what ≡ before ++ step ∷ behind →
       joined_steps T (outset T h) (rs ++ r ∷ more)

@@ -81,7 +81,7 @@ run_front {Op} O c (s ∷ ss) run (inr e) =
     let r = run_front O (then c s.what) ss e.1.0 e.1.1 in
     (r.0, ap (λ (w : List (Lined (Step Op))). s ∷ w) r.1 ∙ ap (λ (w : List (Lined (Step Op))). w ++ r.0) (sym e.1.2))
 
--- where the bare steps part, the steps do
+-- if the bare steps part, the steps do
 record PartsAt {A : Type 0} (run : List (Lined A)) (xs : List A) : Type 0 where
   pub before : List (Lined A)
   pub next : Lined A

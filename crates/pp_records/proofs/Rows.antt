@@ -26,7 +26,7 @@ begin t = records.Plain (Begin t t None)
 abbrev began : Name → Step ℕ
 began t = Begin t t None
 
--- the steps of the records, all of which stand for some where each step holds
+-- The steps of all records.
 abbrev steps : Style → Kind → List (RunRecord ℕ) → List (Step ℕ)
 steps style kind rs =
     let T = translation (λ (op : ℕ). 0) style (kind ∷ []) in

@@ -90,7 +90,7 @@ apart : {Op : Type 0} (e : LocalEntry Op) (l p : List (LocalEntry Op)) → ((a b
 unfolding Apart
 apart e l p n a i = n a e (before_across a e p (e ∷ l) i (inl refl))
 
--- and all that stand behind some
+-- Taking the entries l back from the end of the local log p ++ l leaves p.
 all_out : {Op : Type 0} (t : Name) (c : Config Op) (x : Tx Op) (p l : List (LocalEntry Op)) → tx t c.opened ≡ Some x → x.local ≡ p ++ l →
     ((a b : LocalEntry Op) → Before a b (p ++ l) → a.id ≢ b.id) → tx t (after_from c (taken_out t l)).opened ≡ Some (relog (λ l. p) x)
 all_out {Op} t c x p [] h w n = h ∙ ap (λ (k : List (LocalEntry Op)). Some (relog (λ l. k) x)) (w ∙ append-nil p)
@@ -136,7 +136,7 @@ pulled_log {Op} O c t wanted x s h r =
     all_in O t c.shared (missing wanted c.shared x.local) c x refl s.shared_ids
     (λ g i. (from_filter (λ (g : SharedEntry Op). wanted g && not (stands_in x.local g.id)) g c.shared i).0) h r
 
--- an id that is told to be among those of the entries is one of theirs
+-- An id that is reported to be among those of the entries is one of theirs.
 told_in : {Op : Type 0} (l : List (LocalEntry Op)) (i : ℕ) → stands_in l i ≡ true → (e : LocalEntry Op) × In e l × (e.id ≡ i)
 told_in [] i h = absurd (cc)
 told_in (e ∷ l) i h =

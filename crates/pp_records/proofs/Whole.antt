@@ -1,4 +1,4 @@
--- The run of a list of records: there is one at most, and records behind others extend it.
+-- The run of a list of records: there is one at most, and records after others extend it.
 use Rattle.std.specs.Prelude.{◌≡◌, ◌+◌, ℕ, zero, suc, List, [], ◌∷◌, ◌++◌, length, take, Option}
 use Rattle.std.proofs.Common.{refl, sym, ap, subst, ◌∙◌, arith, append_assoc}
 use mathlib.Core.Logic.{inl, inr}
@@ -70,7 +70,7 @@ module _ {F R Op State : Type 0} (O : Object Op State) (T : Translation F R Op) 
         told = run_told;
       }
 
-  -- records behind others
+  -- Records after others.
   pub joined_more : (p : Standing F Op) (rs more : List (Lined R)) → joined_steps T p (rs ++ more) ≡ joined_steps T p rs ++ joined_steps T (after_records T p rs) more
   joined_more p [] more = refl
   joined_more p (r ∷ rs) more =
@@ -143,7 +143,8 @@ module _ {F R Op State : Type 0} (O : Object Op State) (T : Translation F R Op) 
         (more_behind O 200_000 (first h) (joined_steps T (outset T h) rs) (joined_steps T (after_records T (outset T h) rs) more) line m.1),
   )
 
-  -- Records after others only extend the run.
+  -- Records after others only extend the run. If each step of the first ones holds, the run of all is these steps, followed by the run of
+  -- the others from the state that the first ones lead to.
   pub extends_law : ExtendsLaw O T
   extends_law =
       record {

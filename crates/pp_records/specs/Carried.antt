@@ -53,13 +53,13 @@ module _ {Op : Type 0} (OfName : Name → Type 0) (OfId : ℕ → Type 0) (OfOp 
   RecordCarries (records.Publish t) = OfName t
   RecordCarries (records.DropSource t source) = OfName t × OfName source
 
-  -- the same of a start, where there is one
+  -- the same of a start if there is one
   abbrev pub StartCarries : Option (Start Op) → Type 0
   StartCarries None = Unit {0}
   StartCarries (Some z) = OfName z.tx × Each (λ p. OfId p.id × OfOp p.op) z.items
 
-  -- Each step that a record stands for carries what the record carries, or an id of a log. So each
-  -- step of a run carries only what the records and the start carry.
+  -- Each step of a record carries what the record carries, or an id of a log. So each step of a run
+  -- carries only what the records and the start carry.
   pub record CarriedLaw {State : Type 0} (O : Object Op State) : Type 0 where
     pub steps : (place : Op → ℕ) (style : Style) (f : Front) (c : Config Op) (r : RunRecord Op) →
         LogsCarry OfId c → RecordCarries r → Each Carries (expand place style f c r)

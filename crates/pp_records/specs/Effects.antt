@@ -25,8 +25,8 @@ BackLaw {Op} O =
     (c : Config Op) (t : Name) (n : ℕ) (x : Tx Op) → Sound O c → tx t c.opened ≡ Some x →
     tx t (after_from c (back t n x.local)).opened ≡ Some (relog (λ l. take n l) x)
 
--- Pulls that hold put the missing entries behind L, in the order of G. So each wanted entry of G
--- stands in L: after a refresh that holds, each committed entry of the object.
+-- Pulls that hold put the missing entries after L, in the order of G. So each wanted entry of G is
+-- in L: after a refresh that holds, each committed entry of the object.
 pub record PullsLaw {Op State : Type 0} (O : Object Op State) : Type 0 where
   pub log : (c : Config Op) (t : Name) (wanted : SharedEntry Op → Bool) (x : Tx Op) → Sound O c →
       tx t c.opened ≡ Some x → RunsFrom O c (pulls t wanted c.shared x.local) →

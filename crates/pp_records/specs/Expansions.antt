@@ -1,4 +1,4 @@
--- Meaning: the steps that a record stands for, and the front's state behind it.
+-- Meaning: the steps of a record, and the front's state after it.
 use Rattle.std.specs.Prelude.{ℕ, ◌==◌, Bool, true, false, not, ◌&&◌, ◌||◌, List, [], ◌∷◌, ◌++◌}
 use Rattle.std.specs.Prelude.{length, map, filter, reverse, drop, if◌then◌else◌, Option, None, Some}
 use Rattle.std.specs.List.{list_any}
@@ -29,7 +29,7 @@ Steps Op = List (Step Op)
 abbrev pub Placing : Type 0 → Type 0
 Placing Op = Op → ℕ
 
--- an entry of this id stands in L
+-- an entry of this id is in L
 abbrev pub stands_in : {Op : Type 0} → LocalLog Op → ℕ → Bool
 stands_in l id = has_id id (map (λ e. e.id) l)
 
@@ -82,7 +82,7 @@ is_pulled_from source e = is_mark e.mark Pulled && (e.owner =ⁿ source)
 abbrev pub unpulls : {Op : Type 0} → Name → Name → LocalLog Op → Steps Op
 unpulls t source l = map (λ e. Unpull t e.id) (reverse (filter (is_pulled_from source) l))
 
--- refresh, where none of the entries seen is on the object
+-- refresh if none of the entries seen is on the object
 abbrev pub refresh_unless : {Op : Type 0} → Placing Op → Name → ℕ → LocalLog Op → SharedLog Op →
     LocalLog Op → Steps Op
 refresh_unless place t o seen G l = if touches place o seen then [] else refresh place t o G l
@@ -92,8 +92,8 @@ abbrev pub op_at_once : {Op : Type 0} → Placing Op → SharedLog Op → LocalL
     Steps Op
 op_at_once place G l t id op = refresh place t (place op) G l ++ App t id op ∷ Push t id ∷ []
 
--- an operation that waits for its push: refresh, where none of the entries seen is on its object,
--- and APP
+-- an operation that waits for its push: refresh if none of the entries seen is on its object, and
+-- APP
 abbrev pub op_later : {Op : Type 0} → Placing Op → LocalLog Op → SharedLog Op → LocalLog Op → Name →
     ℕ → Op → Steps Op
 op_later place seen G l t id op = refresh_unless place t (place op) seen G l ++ App t id op ∷ []
@@ -134,13 +134,13 @@ abbrev pub steps_of_open : {Op : Type 0} → Option (Tx Op) → Step Op → (Loc
 steps_of_open None alone steps = alone ∷ []
 steps_of_open (Some x) alone steps = steps x.local
 
--- where t is open, these steps for its L; else the one step, which fails its first criterion
+-- if t is open, these steps for its L; else the one step, which fails its first criterion
 abbrev pub where_open : {Op : Type 0} → Config Op → Name → Step Op → (LocalLog Op → Steps Op) →
     Steps Op
 where_open c t alone steps = steps_of_open (tx t c.opened) alone steps
 
--- The steps that a record stands for, in this state of the front and this configuration. A plain
--- step is itself, in every style.
+-- The steps of a record, in this state of the front and this configuration. A plain step is itself,
+-- in every style.
 abbrev pub expand : {Op : Type 0} → Placing Op → Style → Front → Config Op → RunRecord Op → Steps Op
 expand place style f c (records.Plain step) = step ∷ []
 expand place style f c (records.Op t id op) =
@@ -163,12 +163,12 @@ abbrev pub front_of_open : {Op : Type 0} → Option (Tx Op) → Front → (Local
 front_of_open None f changed = f
 front_of_open (Some x) f changed = changed x.local
 
--- where t is open, this change for its L; else the front's state stays
+-- if t is open, this change for its L; else the front's state stays
 abbrev pub changed_where_open : {Op : Type 0} → Config Op → Name → Front → (LocalLog Op → Front) →
     Front
 changed_where_open c t f changed = front_of_open (tx t c.opened) f changed
 
--- The front's state behind a record.
+-- The front's state after a record.
 abbrev pub front_after : {Op : Type 0} → Front → Config Op → RunRecord Op → Front
 front_after f c (records.Retry t) =
     changed_where_open c t f λ l. with_sources (with_section f t None) t []

@@ -70,24 +70,24 @@ abbrev pub IsReportBehind : {H F R Op State Cause : Type 0} → (H → Setting F
 IsReportBehind setting (Some fault) sc r = r ≡ Faulty fault.0 fault.1
 IsReportBehind setting None sc r = IsRunReport setting sc.header sc.records r
 
--- The report of an input: its fault, where it has one, and else that of its run.
+-- The report of an input: its fault if it has one, and else that of its run.
 abbrev pub IsReport : {H F R Op State Cause : Type 0} → (H → Setting F R Op State) → Cause →
     Scan H R Cause → Report Op State Cause → Type 0
 IsReport {Cause = Cause} setting too_many sc r =
     (fault : Option (ℕ × Cause)) × IsFault setting too_many sc fault
     × IsReportBehind setting fault sc r
 
--- The wider scan is of the same lines and of some behind them.
+-- The wider scan is of the same lines and of some after them.
 pub record Widens {H R Cause : Type 0} (sc wider : Scan H R Cause) : Type 0 where
   pub header : (h : H) → sc.header ≡ Some h → wider.header ≡ Some h
   pub records : (more : Records R) × (wider.records ≡ sc.records ++ more)
   pub fault : (f : ℕ × Cause) → sc.fault ≡ Some f → wider ≡ sc
 
--- all steps of the records, also behind one that fails
+-- all steps of the records, also after one that fails
 abbrev pub steps_of : {F R Op State : Type 0} → Setting F R Op State → Records R → LinedSteps Op
 steps_of s rs = joined_steps s.translation (outset s.translation s.start) rs
 
--- An input has one fault and one report at most. A fault stays, whatever lines come behind. The
+-- An input has one fault and one report at most. A fault stays, whatever lines come after. The
 -- report is that of the verdict of all steps of its records.
 pub record InputLaw {H F R Op State Cause : Type 0}
     (setting : H → Setting F R Op State) (too_many : Cause) : Type 0 where

@@ -14,9 +14,9 @@ abbrev pub up_to : {A : Type 0} → Verdict → List A → List A
 up_to Accepted ss = ss
 up_to (Rejected i n) ss = take i ss
 
--- Records have a run, and one at most (where the first step fails can not be computed from a
--- configuration alone, so that there is one is said by what can not be). There is one line at most
--- where there are too many steps. The verdict of the run is that of all steps, and it tells the run.
+-- Records have a run, and one at most. (A configuration alone does not say where the first step
+-- fails, so that there is one run is said by what can not be.) There is one line at most with too
+-- many steps. The verdict of the run is that of all steps, and the run reports it.
 pub record OneRunLaw {F R Op State : Type 0} (O : Object Op State) (T : Translation F R Op) :
     Type 0 where
   pub some : (h : Option (Start Op)) (rs : Records R) →
@@ -32,8 +32,8 @@ pub record OneRunLaw {F R Op State : Type 0} (O : Object Op State) (T : Translat
       IsVerdict O h (bare (joined_steps T (outset T h) rs)) v →
       IsRun O T h rs (up_to v (joined_steps T (outset T h) rs))
 
--- Records behind others only extend the run. Where each step of the first ones holds, the run of
--- all is these steps, and the run of the others from where the first ones lead.
+-- Records after others only extend the run. If each step of the first ones holds, the run of all is
+-- these steps, followed by the run of the others from the state that the first ones lead to.
 pub record ExtendsLaw {F R Op State : Type 0} (O : Object Op State) (T : Translation F R Op) :
     Type 0 where
   pub steps : (p : Standing F Op) (rs more : Records R) →
@@ -69,7 +69,7 @@ pub record StandsAt {F R Op State : Type 0} (O : Object Op State) (T : Translati
   pub number : count ≡ length (joined_steps T (outset T h) rs)
   pub few : count ≤ 200_000
 
--- The run of the records is this one, whatever comes behind them, and it is rejected so.
+-- The run of the records is this one, whatever comes after them, and it is rejected so.
 pub record IsRejectedAt {F R Op State : Type 0} (O : Object Op State) (T : Translation F R Op)
     (h : Option (Start Op)) (rs : Records R) (run : LinedSteps Op) (i n : ℕ) : Type 0 where
   pub run_is : IsRun O T h rs run

@@ -9,7 +9,7 @@ use Rattle.pp_records.specs.Inputs.{IsFault, IsReportOf, IsRunReport, Report, Se
 use Rattle.pp_records.specs.Runs.{LinedSteps, bare}
 use Rattle.pp_records.specs.Styles.{plain, translation}
 
--- the records behind each of these headers become steps in one of the styles
+-- the records after each of these headers become steps in one of the styles
 abbrev pub AreStyled : {H Op State : Type 0} → (H → Setting Front (RunRecord Op) Op State) → Type 0
 AreStyled {H} {Op} setting =
     (h : H) → (place : Op → ℕ) × (style : Style) × (ks : List Kind)

@@ -1,5 +1,4 @@
--- Meaning: the run of a list of records: the steps that they stand for, up to and with the first
--- that fails.
+-- Meaning: the run of a list of records: their steps, up to and including the first that fails.
 use Rattle.std.specs.Prelude.{◌≡◌, ◌⊎◌, ℕ, suc, List, [], ◌∷◌, ◌++◌, length, map, Option}
 use Rattle.pp_model.specs.Object.{Object}
 use Rattle.pp_model.specs.Config.{Config, Start, Step, after_from, first, then}
@@ -17,13 +16,13 @@ abbrev pub Records : Type 0 → Type 0
 Records R = List (Lined R)
 
 -- How records become steps: from the front's state and the configuration, the steps of a record,
--- and the front's state behind it.
+-- and the front's state after it.
 pub record Translation (F R Op : Type 0) : Type 0 where
   pub new : F
   pub expand : F → Config Op → R → List (Step Op)
   pub front_after : F → Config Op → R → F
 
--- where a run stands
+-- the state of a run between two records
 pub record Standing (F Op : Type 0) : Type 0 where
   pub front : F
   pub config : Config Op
@@ -32,7 +31,7 @@ pub record Standing (F Op : Type 0) : Type 0 where
 abbrev pub outset : {F R Op : Type 0} → Translation F R Op → Option (Start Op) → Standing F Op
 outset T h = record { front = T.new; config = first h }
 
--- the steps of a record, from where the run stands
+-- the steps of a record, from where the run is
 abbrev pub steps_at : {F R Op : Type 0} → Translation F R Op → Standing F Op → R → List (Step Op)
 steps_at T p r = T.expand p.front p.config r
 
@@ -50,8 +49,8 @@ on_line line ss = map (λ s. record { line = line; what = s }) ss
 abbrev pub bare : {A : Type 0} → List (Lined A) → List A
 bare ss = map (λ s. s.what) ss
 
--- The steps of the records in order, each on the line of its record, and each record taken where
--- those before it lead.
+-- The steps of the records in order, each on the line of its record, and each record taken if those
+-- before it lead.
 abbrev pub joined_steps : {F R Op : Type 0} → Translation F R Op → Standing F Op → Records R →
     LinedSteps Op
 joined_steps T p [] = []
@@ -64,8 +63,7 @@ abbrev pub after_records : {F R Op : Type 0} → Translation F R Op → Standing
 after_records T p [] = p
 after_records T p (r ∷ rs) = after_records T (after_record T p r.what) rs
 
--- run is the front of the steps that ends with the first that fails, and all of them where none
--- fails
+-- run is the front of the steps that ends with the first that fails, and all of them if none fails
 abbrev pub EndsAtFailure : {Op State : Type 0} → Object Op State → Config Op → LinedSteps Op →
     LinedSteps Op → Type 0
 EndsAtFailure O c [] run = run ≡ []
@@ -75,7 +73,7 @@ EndsAtFailure O c (s ∷ ss) run =
     × ((rest : List (Lined (Step _))) × EndsAtFailure O (then c s.what) ss rest
     × (run ≡ s ∷ rest)))
 
--- the run of the records from where it stands
+-- the run of the records from where it is
 abbrev pub IsRunFrom : {F R Op State : Type 0} → Object Op State → Translation F R Op →
     Standing F Op → Records R → LinedSteps Op → Type 0
 IsRunFrom O T p rs run = EndsAtFailure O p.config (joined_steps T p rs) run
@@ -87,7 +85,7 @@ IsRun O T h rs run =
     ((n : ℕ) × StartBreaks O h (suc n) × (run ≡ []))
     ⊎ (StartMeets O h × IsRunFrom O T (outset T h) rs run)
 
--- So many steps hold, and one more stands on this line.
+-- This many steps hold, and one more is on this line.
 pub record HasOneMore {Op State : Type 0} (O : Object Op State) (most : ℕ) (c : Config Op)
     (ss : LinedSteps Op) (line : ℕ) : Type 0 where
   pub before : LinedSteps Op

@@ -28,7 +28,7 @@ abbrev pub numbered : {A : Type 0} → ℕ → List A → List (Lined A)
 numbered i [] = []
 numbered i (s ∷ ss) = record { line = suc i; what = s } ∷ numbered (suc i) ss
 
--- the steps of a run as records of style rules: step i, from 1, on line i + 1, behind a header
+-- the steps of a run as records of style rules: step i, from 1, on line i + 1, after a header
 abbrev pub restated : {Op : Type 0} → LinedSteps Op → LinedSteps Op
 restated run = numbered 1 (bare run)
 

@@ -1,5 +1,4 @@
-//! The records of a run, and the steps that they stand for: the definitions, and proofs of their
-//! laws.
+//! The records of a run, and their steps: the definitions, and proofs of their laws.
 #![tactic(auto)]
 
 mod run_record;

@@ -1,7 +1,7 @@
 //! The records of a run, as its style writes them.
 use pp_core::{Name, Step};
 
-/// A record of a run behind its header. Which of them a run may have is told by its style.
+/// A record of a run after its header. The style says which records a run may have.
 #[derive(Drop)]
 pub enum RunRecord<O> {
     /// A step of the machine: any of them in style rules, and a begin in every style.

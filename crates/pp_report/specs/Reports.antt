@@ -40,7 +40,7 @@ accepted_text catalog steps committed states =
     accepted_line steps (length committed) ++ all_tx_lines catalog committed
     ++ state_lines catalog states
 
--- where the failed step is: its number, and the line of its record
+-- the position of the failed step: its number, and the line of its record
 abbrev pub rejected_place : ℕ → ℕ → List ℕ
 rejected_place step at_line =
     codes "rejected step " ++ decimal step ++ codes " line " ++ decimal at_line
@@ -55,7 +55,7 @@ abbrev pub rejected_line : ℕ → ℕ → Rule → ℕ → List ℕ
 rejected_line step at_line rule criterion =
     line (rejected_place step at_line ++ rejected_rule rule criterion)
 
--- operations, each behind a space
+-- operations, each after a space
 abbrev pub spaced_bytes : Objects → Op → List ℕ
 spaced_bytes catalog op = codes " " ++ op_bytes catalog op
 
@@ -66,7 +66,7 @@ ops_bytes catalog ops = flat_map (spaced_bytes catalog) ops
 abbrev pub entry_bytes : ℕ → List ℕ
 entry_bytes id = codes "entry " ++ decimal id
 
--- a line of operations behind a word
+-- a line of operations after a word
 abbrev pub ops_line : Objects → List ℕ → List Op → List ℕ
 ops_line catalog word ops = line (word ++ ops_bytes catalog ops)
 

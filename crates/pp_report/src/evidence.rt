@@ -11,7 +11,7 @@ use pp_machine::Detail;
 use pp_objects::Op;
 use pp_text::{write_answer, write_number, write_op};
 
-/// Adds an operation behind a space.
+/// Adds an operation after a space.
 fn write_spaced(text: &mut Text, catalog: &Catalog, op: &Op) -> Result<(), OutOfMemory>
     requires { IsNamed catalog.now op.now }
     ensures { OnOk result (text.new ≡ text.old ++ spaced_bytes catalog.now op.now) }
@@ -20,7 +20,7 @@ fn write_spaced(text: &mut Text, catalog: &Catalog, op: &Op) -> Result<(), OutOf
     write_op(text, catalog, op)
 }
 
-/// Adds operations, each behind a space.
+/// Adds operations, each after a space.
 fn write_ops(text: &mut Text, catalog: &Catalog, ops: &[Op]) -> Result<(), OutOfMemory>
     requires { Each (IsNamed catalog.now) ops.now }
     ensures { OnOk result (text.new ≡ text.old ++ ops_bytes catalog.now ops.now) }
@@ -31,7 +31,7 @@ fn write_ops(text: &mut Text, catalog: &Catalog, ops: &[Op]) -> Result<(), OutOf
     Ok(())
 }
 
-/// Adds a line of operations behind a word.
+/// Adds a line of operations after a word.
 fn write_ops_line(
     text: &mut Text,
     catalog: &Catalog,

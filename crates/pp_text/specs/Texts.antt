@@ -49,7 +49,7 @@ answer_bytes (Number n) = signed_decimal n
 answer_bytes (Truth true) = codes "true"
 answer_bytes (Truth false) = codes "false"
 
--- numbers, each behind a comma
+-- numbers, each after a comma
 abbrev pub more_bytes : List ℤ → List ℕ
 more_bytes numbers = flat_map (λ n. codes "," ++ signed_decimal n) numbers
 

@@ -21,7 +21,7 @@ pub(crate) fn name_at(catalog: &Catalog, object: u16) -> Name
     }
 }
 
-/// Adds numbers, each behind a comma.
+/// Adds numbers, each after a comma.
 fn write_more(text: &mut Text, numbers: &[i64]) -> Result<(), OutOfMemory>
     ensures { OnOk result (text.new ≡ text.old ++ more_bytes numbers.now) }
 {
@@ -31,7 +31,7 @@ fn write_more(text: &mut Text, numbers: &[i64]) -> Result<(), OutOfMemory>
     Ok(())
 }
 
-/// Adds a number behind a comma.
+/// Adds a number after a comma.
 fn write_next(text: &mut Text, number: i64) -> Result<(), OutOfMemory>
     ensures { OnOk result (text.new ≡ text.old ++ codes "," ++ signed_decimal number) }
 {

@@ -8,13 +8,13 @@ use Rattle.pp_kind_counter.specs.declared.op.CounterOp.TheVariants.{Add, Get, Fe
 use Rattle.pp_kind_counter.specs.Operations.{given_by, call_of}
 use Rattle.pp_kind_counter.specs.Count.{counter}
 
--- The number that an operation tells.
+-- The number that the result of an operation shows.
 abbrev pub Tells : CounterOp → ℤ → Type 0
 Tells (Add by) n = Unit {0}
 Tells (Get value) n = n ≡ value
 Tells (FetchAdd by was) n = n ≡ was
 
--- An operation is legal exactly at the number that it tells.
+-- An operation is legal exactly at the number that its result shows.
 pub told : (op : CounterOp) (n : ℤ) → IsLegal counter n op → Tells op n
 told (Add by) n h = tt
 told (Get value) n h = let k = h.1 in cc

@@ -1,4 +1,4 @@
--- Proof machinery: a pair swaps exactly where the table lets it.
+-- Proof machinery: a pair swaps exactly if the table lets it.
 use Rattle.std.proofs.Common.{◌≡◌, ℤ, pos, ◌+ℤ◌, true, false, [], ◌∷◌, ◌++◌, ◌↔◌, refl, sym, subst}
 use Rattle.std.proofs.Common.{arith, int_eq, int_lt, IsTrue}
 use Rattle.std.proofs.lemmas.Int.{ints}
@@ -30,7 +30,7 @@ may_swap_commutes a b t shape before allowed h k =
       same_sum n (shift_of a) (shift_of b),
     )
 
--- The pair swaps exactly where the table lets it.
+-- The pair swaps exactly if the table lets it.
 pair_refuted : (a b : CounterOp) → may_swap a b ≡ false
     → AllowedFrom counter (pos 0) (reach (pair_begins a b) ++ (a ∷ b ∷ []))
 pair_refuted a b t =
@@ -60,7 +60,7 @@ ranged_before a b h k =
     reach_by_ranged (int_eq x (pos 0)) (in_range x) (int_lt (pos 0) x) x (begins_low a b h k)
     (begins_high a b h k) refl refl
 
--- The pair swaps exactly where the table lets it, and else nowhere.
+-- The pair swaps exactly if the table lets it, and else nowhere.
 pub table_tells : IsTold counter may_swap lists_round
 table_tells = record {
   refuting = λ a b. refl;

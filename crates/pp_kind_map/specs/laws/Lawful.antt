@@ -20,7 +20,7 @@ use Rattle.pp_kind_map.specs.KeyMap.{key_map, map_keys}
 use Rattle.pp_kind_map.specs.laws.Rule.{alike_is, table_is_rule}
 use Rattle.pp_kind_map.specs.laws.Acting.{map_is_keyed}
 
--- What is put first stands at its key.
+-- What is put first is at its key.
 put_allowed : (key : ℤ) (v : Option ℤ) → IsAllowed key_map tt (put_first key v)
 put_allowed key None = tt
 put_allowed key (Some x) = ((refl, ap answer_of (get-empty {X = ℤ} int_cmp key)), tt)
@@ -56,7 +56,7 @@ map_is_shown = record {
   ranged_after = λ a b h k. tt;
 }
 
--- The pair swaps exactly where the table lets it, and else nowhere.
+-- The pair swaps exactly if the table lets it, and else nowhere.
 told : IsTold key_map may_swap lists_round
 told = keyed.table_tells key_map (told_keys map_keys) table_lets lists_round map_is_keyed
     map_is_shown

@@ -32,7 +32,7 @@ unlike_told : (b : Bool) (v e : ℤ) → int_eq v e ≡ b → v ≢ e → Truth 
 unlike_told true v e h k = absurd (k (same_key v e h))
 unlike_told false v e h k = refl
 
--- An operation is legal exactly where it finds what stands at its address.
+-- An operation is legal exactly if it finds what is at its address.
 legal_finds : (m : FinMap int_cmp ℤ) (a : MemOp) → IsLegal memory m a
     → Finds a (value_at m (address_of a))
 legal_finds m (Read a v) h = let k = h.1 in cc

@@ -64,7 +64,7 @@ either_follows v w x y t = grind (arith, ints)
 either_stops : (v w x y : ℤ) → (not (int_eq v w) || int_eq x y) ≡ false → x ≡ y → ⊥
 either_stops v w x y t e = grind (arith, ints)
 
--- Where the table lets a pair on one address swap, it does, whatever number stands there.
+-- If the table lets a pair on one address swap, it does, whatever number is there.
 turns : (a b : MemOp) → may_swap_there a b ≡ true → (c : ℤ) → TurnsAt addresses a b c
 turns (Read a v) (Read b w) t c h g = (g, h, refl)
 turns (Read a v) (Write b w) t c h g = (tt, sym (same_key v w t), refl)
@@ -98,7 +98,7 @@ write_stands : (a v : ℤ) → value_at (state_after memory tt (Write a v ∷ []
 write_stands a v = left_here memory addresses memory_keyed empty (Write a v) a refl
     (write_allowed a v).0
 
--- Behind it a pair goes on that stops in the other order.
+-- After the context a pair is allowed, and not in the other order.
 behind : (a b : MemOp) (v : ℤ) → Finds a v → Finds b (left_by a v)
     → (Finds b v → Finds a (left_by b v) → ⊥)
     → Shows memory addresses a b (Write (address_of a) v ∷ []) []
@@ -123,7 +123,7 @@ read_found : (m : FinMap int_cmp ℤ) (a v : ℤ) → AllowedFrom memory m (Read
     → value_at m a ≡ v
 read_found m a v h = (memory_keyed.legal m (Read a v)).0 h.0
 
--- Where the table does not let a pair on one address swap, the lists show that it does not.
+-- If the table does not let a pair on one address swap, the lists show that it does not.
 shown : (a b : MemOp) → address_of a ≡ address_of b → may_swap_there a b ≡ false
     → Shows memory addresses a b (lists_round a b).0 (lists_round a b).1
 shown (Read a v) (Read b w) e t = absurd (cc)
@@ -176,7 +176,7 @@ shown (Cas a f k false) (Cas b g j true) e t =
     (λ h i. i (either_follows j f g f t))
 shown (Cas a f k false) (Cas b g j false) e t = absurd (cc)
 
--- They are ranged where the pair is.
+-- They are ranged if the pair is.
 abbrev IsRangedNumber : Option ℤ → Type 0
 IsRangedNumber None = Unit {0}
 IsRangedNumber (Some v) = IsTrue (in_range v)
@@ -248,7 +248,7 @@ memory_shown = record {
       (after_ranged a b k);
 }
 
--- The pair swaps exactly where the table lets it, and else nowhere.
+-- The pair swaps exactly if the table lets it, and else nowhere.
 told : IsTold memory may_swap lists_round
 told = keyed.table_tells memory addresses may_swap_there lists_round memory_keyed memory_shown
 

@@ -22,7 +22,7 @@ value_by true false v o e = refl
 value_by false true v o e = refl
 value_by false false v o e = refl
 
--- The written number at its address, and at every other what stood there.
+-- The written number at its address, and at every other what was there.
 pub written_at : (m : FinMap int_cmp ℤ) (a v q : ℤ)
     → value_at (written m a v) q ≡ cond (int_eq q a) v (value_at m q)
 written_at m a v q =

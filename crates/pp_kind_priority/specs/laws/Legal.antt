@@ -11,13 +11,13 @@ use Rattle.pp_kind_priority.specs.Operations.{values_after, given_by, call_of}
 use Rattle.pp_kind_priority.specs.Prios.{prio}
 use Rattle.pp_kind_priority.specs.laws.Values.{with_one_ascends, rest_ascends}
 
--- The least value that an operation tells.
+-- The least value that the result of an operation shows.
 abbrev pub Tells : PrioOp → List ℤ → Type 0
 Tells (Insert value) values = Unit {0}
 Tells (Take value) values = least_of values ≡ value
 Tells (Least value) values = least_of values ≡ value
 
--- An operation is legal exactly at the least value that it tells.
+-- An operation is legal exactly if its result shows the least value.
 pub told : (op : PrioOp) (values : List ℤ) → IsLegal prio values op → Tells op values
 told (Insert value) values h = tt
 told (Take value) values h = same_found (least_of values) value h.1

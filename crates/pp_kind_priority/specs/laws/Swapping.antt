@@ -1,4 +1,4 @@
--- Proof machinery: a pair swaps exactly where the table lets it.
+-- Proof machinery: a pair swaps exactly if the table lets it.
 use Rattle.std.proofs.Common.{◌≡◌, ℤ, Bool, true, false, IsTrue, int_le, List, [], ◌∷◌, ◌++◌, ◌↔◌}
 use Rattle.std.proofs.Common.{if◌then◌else◌, refl, sym, ap, subst, arith, Option, Some, None}
 use Rattle.std.proofs.lemmas.Int.{ints}
@@ -134,7 +134,7 @@ turned_refuted (Least None) (Take None) t h = cc
 turned_refuted (Least None) (Least (Some y)) t h = cc
 turned_refuted (Least None) (Least None) t h = cc
 
--- They are ranged where the pair is.
+-- They are ranged if the pair is.
 insertion_ranged : (found : Option ℤ) → IsTrue (is_ranged_found found)
     → AllRanged prio (insertion_of found)
 insertion_ranged None h = tt
@@ -152,7 +152,7 @@ before_ranged (Take None) b h k = tt
 before_ranged (Take (Some x)) b h k = (h, insertion_ranged (found_by b) (found_ranged b k))
 before_ranged (Least value) b h k = insertion_ranged value h
 
--- The pair swaps exactly where the table lets it, and else nowhere.
+-- The pair swaps exactly if the table lets it, and else nowhere.
 pub table_tells : IsTold prio may_swap lists_round
 table_tells = record {
   refuting = λ a b. refl;

@@ -17,7 +17,7 @@ pub put_behind : (v x : ℤ) (values : List ℤ) → int_le v x ≡ false
 put_behind v x values h =
     ap (λ (b : Bool). if b then v ∷ x ∷ values else x ∷ with_one v values) h
 
--- One of a value is taken where it stands, and looked for past others.
+-- One of a value is taken where it is, and looked for past others.
 pub taken_here : (v x : ℤ) (values : List ℤ) → int_eq v x ≡ true
     → without_one v (x ∷ values) ≡ values
 taken_here v x values h = ap (λ (b : Bool). if b then values else x ∷ without_one v values) h
@@ -27,7 +27,7 @@ pub taken_past : (v x : ℤ) (values : List ℤ) → int_eq v x ≡ false
     → without_one v (x ∷ values) ≡ x ∷ without_one v values
 taken_past v x values h = ap (λ (b : Bool). if b then values else x ∷ without_one v values) h
 
--- One more of a value where it stands, and none where another stands.
+-- One more of a value where it is, and none where another is.
 pub copies_here : (v x : ℤ) (values : List ℤ) → int_eq v x ≡ true
     → copies_of v (x ∷ values) ≡ suc (copies_of v values)
 copies_here v x values h =
@@ -158,7 +158,7 @@ with_two v w [] = none_yet v w (int_le v w) (int_le w v) refl refl
 with_two v w (x ∷ values) =
     turned_by v w x values (int_le v x) (int_le w x) refl refl (with_two v w values)
 
--- Where the least is not the one that was put in, it was the least before.
+-- If the least is not the one that was put in, it was the least before.
 pub record WasLeast (v w : ℤ) (values : List ℤ) : Type 0 where
   pub least : least_of values ≡ Some w
   pub rest : with_one v (without_least values) ≡ without_least (with_one v values)

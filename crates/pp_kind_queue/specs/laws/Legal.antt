@@ -9,12 +9,12 @@ use Rattle.pp_kind_queue.specs.declared.op.QueueOp.TheVariants.{Enq, Deq}
 use Rattle.pp_kind_queue.specs.Operations.{front_of, given_by, call_of}
 use Rattle.pp_kind_queue.specs.Fifo.{fifo}
 
--- The front that an operation tells.
+-- The front that the result of an operation shows.
 abbrev pub Tells : QueueOp → List ℤ → Type 0
 Tells (Enq value) items = Unit {0}
 Tells (Deq value) items = front_of items ≡ value
 
--- An operation is legal exactly at the front that it tells.
+-- An operation is legal exactly at the front that its result shows.
 pub told : (op : QueueOp) (items : List ℤ) → IsLegal fifo items op → Tells op items
 told (Enq value) items h = tt
 told (Deq value) items h = same_found (front_of items) value h.1

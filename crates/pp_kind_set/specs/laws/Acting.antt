@@ -23,7 +23,7 @@ twice : (b c : Bool) → not b ≡ c → b ≡ not c
 twice true c e = ap not e
 twice false c e = ap not e
 
--- An operation is legal exactly where its key is in, or not, as its result tells.
+-- An operation is legal exactly if its key is in, or not, as its result shows.
 legal_finds : (s : FinSet int_cmp) (a : SetOp) → IsLegal key_set s a
     → contains s (key_of a) ≡ bit_before a
 legal_finds s (Add k c) h = let e = h.1 in twice (contains s k) c cc

@@ -76,7 +76,7 @@ set_shown = record {
   ranged_after = λ a b h k. tt;
 }
 
--- The pair swaps exactly where the table lets it, and else nowhere.
+-- The pair swaps exactly if the table lets it, and else nowhere.
 told : IsTold key_set may_swap lists_round
 told = keyed.table_tells key_set (told_keys bits) may_swap_there lists_round set_keyed set_shown
 

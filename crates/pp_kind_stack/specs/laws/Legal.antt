@@ -12,7 +12,7 @@ use Rattle.pp_kind_stack.specs.declared.op.StackOp.TheVariants.{Push, Pop}
 use Rattle.pp_kind_stack.specs.Operations.{top_of, without_top, given_by, call_of}
 use Rattle.pp_kind_stack.specs.Stacks.{stack}
 
--- The item that is added stands at the top, above all that was there.
+-- The item that is added is at the top, above all that was there.
 one_more : (items : List ℤ) (x : ℤ) → length (items ++ x ∷ []) - 1 ≡ length items
 one_more items x = omega (arith, length-append items (x ∷ []))
 
@@ -29,7 +29,7 @@ pub rest_pushed : (items : List ℤ) (x : ℤ) → without_top (items ++ x ∷ [
 rest_pushed items x = ap (λ (n : ℕ). take n (items ++ x ∷ [])) (one_more items x)
     ∙ take-append_seam items (x ∷ [])
 
--- Where an item stands at the top, all items are the others below it; else there is none.
+-- If an item is at the top, all items are the others below it; else there is none.
 cut_last : (items : List ℤ) (n : ℕ) (x : ℤ) → length items ≡ suc n → slice_get items n ≡ Some x
     → take n items ++ x ∷ [] ≡ items
 cut_last [] n x e h = cc
@@ -54,12 +54,12 @@ no_top [] h = refl
 no_top (y ∷ items) h =
     absurd (none_there (y ∷ items) (length (y ∷ items) - 1) (omega arith) h)
 
--- The top that an operation tells.
+-- The top that the result of an operation shows.
 abbrev pub Tells : StackOp → List ℤ → Type 0
 Tells (Push value) items = Unit {0}
 Tells (Pop value) items = top_of items ≡ value
 
--- An operation is legal exactly at the top that it tells.
+-- An operation is legal exactly at the top that its result shows.
 pub told : (op : StackOp) (items : List ℤ) → IsLegal stack items op → Tells op items
 told (Push value) items h = tt
 told (Pop value) items h = same_found (top_of items) value h.1

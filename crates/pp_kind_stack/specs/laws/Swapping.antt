@@ -1,4 +1,4 @@
--- Proof machinery: a pair swaps exactly where the table lets it.
+-- Proof machinery: a pair swaps exactly if the table lets it.
 use Rattle.std.proofs.Common.{◌≡◌, true, false, IsTrue, [], ◌∷◌, ◌++◌, ◌↔◌, refl, ap, arith, Some}
 use Rattle.std.proofs.Common.{None}
 use Rattle.std.proofs.lemmas.Int.{ints}
@@ -70,7 +70,7 @@ after_ranged (Push x) (Pop q) h k = tt
 after_ranged (Pop r) (Push y) h k = tt
 after_ranged (Pop r) (Pop q) h k = tt
 
--- The pair swaps exactly where the table lets it, and else nowhere.
+-- The pair swaps exactly if the table lets it, and else nowhere.
 pub table_tells : IsTold stack may_swap lists_round
 table_tells = record {
   refuting = λ a b. refl;

@@ -11,7 +11,7 @@ use pp_kind::Parted;
 use std::sync::ledger::Ledger;
 
 impl<S: Parted> Machine<S> {
-    /// Does APP where its criteria hold, and else refuses it by the first false one.
+    /// Does APP if its criteria hold, and else refuses it by the first false one.
     pub(super) fn app<L: Ledger>(
         mut self,
         tx: &Name,

@@ -24,7 +24,7 @@ impl<S: Parted> Machine<S> {
         Ok(())
     }
 
-    /// Does BEGIN where its criteria hold.
+    /// Does BEGIN if its criteria hold.
     pub(super) fn begin(
         mut self,
         tx: &Name,

@@ -14,7 +14,7 @@ use pp_core::{CommittedTx, Name, OutOfMemory};
 use pp_kind::Parted;
 use pp_log_shared::Shared;
 
-/// Whether CMT may be done, or the refusal by its first false criterion behind the first one, that
+/// Whether CMT may be done, or the refusal by its first false criterion after the first one, that
 /// the transaction is open.
 fn judge_cmt<S: Parted>(course: &Course<S>, shared: &Shared<S>) -> Result<(), Refusal<S::Op>>
     ensures { (m : Rest S.Shape S.Op) (t : NameOf) →
@@ -35,7 +35,7 @@ fn judge_cmt<S: Parted>(course: &Course<S>, shared: &Shared<S>) -> Result<(), Re
 }
 
 impl<S: Parted> Machine<S> {
-    /// Does CMT where its criteria hold.
+    /// Does CMT if its criteria hold.
     pub(super) fn commit(mut self, tx: &Name) -> Result<(Self, Outcome<S::Op>), OutOfMemory>
         requires few { self.count < 4_294_967_295 }
         ensures { Does S.object self (Cmt tx.now) result }

@@ -20,7 +20,7 @@ impl<S: Parted> Machine<S> {
         Ok(())
     }
 
-    /// Does NOTE where its criterion holds. It takes no memory.
+    /// Does NOTE if its criterion holds. It takes no memory.
     pub(super) fn note(mut self, tx: &Name) -> (Self, Outcome<S::Op>)
         requires { self.count < 4_294_967_295 }
         ensures { Stepped S.object self (Note tx.now) result.1 result.0 }

@@ -18,9 +18,9 @@ use pp_log_local::Local;
 use std::alloc::Global;
 use std::sync::ledger::Ledger;
 
-/// The entry that PULL takes over, or the refusal by its first false criterion behind the first
-/// one, that the transaction is open. It is told the entry of this id that another owns. The only
-/// error is that memory was refused.
+/// The entry that PULL takes over, or the refusal by its first false criterion after the first one,
+/// that the transaction is open. The entry of this id that another owns is given. The only error is
+/// out of memory.
 fn judge_pull<S: Parted>(
     local: &Local<S>,
     found: Option<SharedEntry<S::Op>>,
@@ -52,7 +52,7 @@ fn judge_pull<S: Parted>(
 }
 
 impl<S: Parted> Machine<S> {
-    /// Does PULL where its criteria hold.
+    /// Does PULL if its criteria hold.
     pub(super) fn pull<L: Ledger>(
         mut self,
         tx: &Name,

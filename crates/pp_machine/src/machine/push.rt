@@ -16,9 +16,9 @@ use pp_log_shared::Shared;
 use std::alloc::Global;
 use std::sync::ledger::Ledger;
 
-/// The entry that PUSH publishes, and where it stands in the local log, or the refusal by its first
-/// false criterion behind the first one, that the transaction is open. The only error is that
-/// memory was refused.
+/// The entry that PUSH publishes, and its position in the local log, or the refusal by its first
+/// false criterion after the first one, that the transaction is open. The only error is out of
+/// memory.
 fn judge_push<S: Parted>(
     local: &Local<S>,
     shared: &Shared<S>,
@@ -53,7 +53,7 @@ fn judge_push<S: Parted>(
 }
 
 impl<S: Parted> Machine<S> {
-    /// Does PUSH where its criteria hold.
+    /// Does PUSH if its criteria hold.
     pub(super) fn push<L: Ledger>(
         mut self,
         tx: &Name,

@@ -11,7 +11,7 @@ use pp_core::Name;
 use pp_kind::Parted;
 use pp_log_local::Local;
 
-/// Whether QUIT may be done, or the refusal by its first false criterion behind the first one, that
+/// Whether QUIT may be done, or the refusal by its first false criterion after the first one, that
 /// the transaction is open.
 fn judge_quit<S: Parted>(local: &Local<S>) -> Result<(), Refusal<S::Op>>
     ensures { OfEach S.object local.now
@@ -24,7 +24,7 @@ fn judge_quit<S: Parted>(local: &Local<S>) -> Result<(), Refusal<S::Op>>
 }
 
 impl<S: Parted> Machine<S> {
-    /// Does QUIT where its criteria hold. It takes no memory.
+    /// Does QUIT if its criteria hold. It takes no memory.
     pub(super) fn quit(mut self, tx: &Name) -> (Self, Outcome<S::Op>)
         requires { self.count < 4_294_967_295 }
         ensures { Stepped S.object self (Quit tx.now) result.1 result.0 }

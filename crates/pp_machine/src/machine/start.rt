@@ -25,7 +25,7 @@ fn has_id<O: Copy>(items: &[Item<O>], id: u32) -> bool
     items.iter().any(|item| item.id == id)
 }
 
-/// The id of the first item whose id stands before it.
+/// The id of the first item whose id is before it.
 fn first_repeated<O: Copy>(items: &[Item<O>]) -> Option<u32>
     ensures { entry_told result ≡ first_repeated [] items.now }
 {
@@ -39,7 +39,7 @@ fn first_repeated<O: Copy>(items: &[Item<O>]) -> Option<u32>
 }
 
 /// The log with the items as uncommitted entries, or the refusal by the first of them whose result
-/// differs. The only error is that memory was refused.
+/// differs. The only error is out of memory.
 fn posted<S: Parted, L: Ledger>(
     alloc: Global,
     shape: &S::Shape,
@@ -113,7 +113,7 @@ impl<S: Parted> Machine<S> {
         posted(parts.alloc, &parts.shape, tx, items, ticks)
     }
 
-    /// The machine in which the operations stand committed, as those of a transaction of this name
+    /// The machine in which the operations are committed, as those of a transaction of this name
     /// that has begun and ended, in the log that they make.
     fn with_start(
         mut self,
@@ -145,11 +145,10 @@ impl<S: Parted> Machine<S> {
         Ok(self)
     }
 
-    /// Lets operations stand committed before the first step, in a machine that is as `new` made
-    /// it, where no id stands twice and they are allowed; else it gives the machine back as it was,
-    /// with what shows that a criterion is false. The transaction has the name and the operations,
-    /// and is the first one that is committed. The only error is that memory was refused, and the
-    /// machine is then lost.
+    /// Commits operations before the first step, in a machine that is as `new` made it, if no id
+    /// occurs twice and they are allowed. Otherwise it returns the machine as it was, with what
+    /// shows that a criterion is false. The transaction has the name and the operations, and is the
+    /// first committed one. The only error is out of memory, and the machine is then lost.
     pub fn start<L: Ledger>(
         self,
         tx: Name,

@@ -14,8 +14,8 @@ use pp_kind::Parted;
 use pp_log_local::Local;
 use std::sync::ledger::Ledger;
 
-/// Where the entry stands that UNAPP drops, or the refusal by its first false criterion behind the
-/// first one, that the transaction is open.
+/// The position of the entry that UNAPP drops, or the refusal by its first false criterion after
+/// the first one, that the transaction is open.
 fn judge_unapp<S: Parted>(local: &Local<S>, id: u32) -> Result<usize, Refusal<S::Op>>
     ensures { OfEach S.object local.now (λ v t. JudgesUnapp S.object v t id result) }
 {
@@ -26,7 +26,7 @@ fn judge_unapp<S: Parted>(local: &Local<S>, id: u32) -> Result<usize, Refusal<S:
 }
 
 impl<S: Parted> Machine<S> {
-    /// Does UNAPP where its criteria hold.
+    /// Does UNAPP if its criteria hold.
     pub(super) fn unapp<L: Ledger>(
         mut self,
         tx: &Name,

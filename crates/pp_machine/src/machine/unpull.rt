@@ -15,9 +15,9 @@ use pp_kind::Parted;
 use pp_log_local::{Local, Removed};
 use std::sync::ledger::Ledger;
 
-/// Where the entry stands that UNPULL takes out, or the refusal by its first false criterion behind
-/// the first one, that the transaction is open. The last criterion, that the local log is allowed
-/// without the entry, is not asked here.
+/// The position of the entry that UNPULL takes out, or the refusal by its first false criterion
+/// after the first one, that the transaction is open. The last criterion, that the local log is
+/// allowed without the entry, is not tested here.
 fn judge_unpull<S: Parted>(local: &Local<S>, id: u32) -> Result<usize, Refusal<S::Op>>
     requires { AreDistinct local.now.1 }
     ensures { OfEach S.object local.now (λ v t. JudgesUnpull S.object v t id result) }
@@ -29,7 +29,7 @@ fn judge_unpull<S: Parted>(local: &Local<S>, id: u32) -> Result<usize, Refusal<S
 }
 
 impl<S: Parted> Machine<S> {
-    /// Does UNPULL where its criteria hold. The removal decides the last.
+    /// Does UNPULL if its criteria hold. The removal decides the last.
     pub(super) fn unpull<L: Ledger>(
         mut self,
         tx: &Name,

@@ -16,10 +16,10 @@ use pp_log_shared::{Removed, Shared};
 use std::alloc::Global;
 use std::sync::ledger::Ledger;
 
-/// Where the entry that UNPUSH takes back stands in the local and in the shared log, or the refusal
-/// by its first false criterion behind the first one, that the transaction is open. The last
-/// criterion, that the shared log is allowed without the entry, is not asked here. The only error
-/// is that memory was refused.
+/// The positions of the entry that UNPUSH takes back in the local and in the shared log, or the
+/// refusal by its first false criterion after the first one, that the transaction is open. The last
+/// criterion, that the shared log is allowed without the entry, is not tested here. The only error
+/// is out of memory.
 fn judge_unpush<S: Parted>(
     local: &Local<S>,
     shared: &Shared<S>,
@@ -40,7 +40,7 @@ fn judge_unpush<S: Parted>(
         let detail = swap_detail::<S>(alloc, own.id, &own.op, &entry.op)?;
         return Ok(Err(told(3, detail)));
     }
-    // Each pushed entry stands in the shared log.
+    // Each pushed entry is in the shared log.
     let Some(posted) = shared.find(id) else {
         unreachable!()
     };
@@ -87,7 +87,7 @@ impl<S: Parted> Machine<S> {
         }
     }
 
-    /// Does UNPUSH where its criteria hold.
+    /// Does UNPUSH if its criteria hold.
     pub(super) fn unpush<L: Ledger>(
         self,
         tx: &Name,

@@ -24,7 +24,7 @@ use Rattle.pp_objects.specs.laws.Places.{start_shapes, start_at, allowed_at, all
 use Rattle.pp_objects.specs.laws.Places.{others_swap, swaps_at, swaps_alone}
 use Rattle.pp_objects.specs.laws.One.{one_lawful, call_has_no_place, none_as}
 
--- a call at the object 0 is told by its other parts
+-- a call at the object 0 is determined by its other parts
 plain : (c : Call) → c.object ≡ 0 → record c { object = 0 } ≡ c
 plain c h = ap (λ (n : ℕ). record c { object = n }) (sym h)
 
