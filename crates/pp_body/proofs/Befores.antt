@@ -1,4 +1,4 @@
--- What may follow a call may follow the set after it.
+-- The calls that may follow a call may follow the set after it.
 use Rattle.std.proofs.Common.{◌≡◌, ℕ, ◌+◌, ◌^◌, Bool, true, false, ◌||◌, cond, List, [], ◌∷◌, ◌++◌}
 use Rattle.std.proofs.Common.{bit_or, refl, sym, subst, ◌∙◌, inl, inr}
 use Rattle.pp_body.specs.Patterns.{matches}

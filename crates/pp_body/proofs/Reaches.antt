@@ -1,4 +1,4 @@
--- What `reaches` tests.
+-- The meaning of `reaches`.
 use Rattle.std.proofs.Common.{◌≡◌, ◌⊎◌, ℕ, ◌+◌, Bool, true, false, ◌&&◌, List, [], ◌∷◌, ◌++◌, refl}
 use Rattle.std.proofs.Common.{ap, sym, ◌∙◌, inl, inr}
 use Rattle.pp_model.specs.Body.{Tree, Trees, Skip, One, Seq, Alt, Star, NoPart, Part, Word}
@@ -9,7 +9,7 @@ use Rattle.pp_body.specs.Positions.{RestOfSome}
 use Rattle.pp_body.proofs.Patterns.{and_left, and_right, both, or_cases, or_left, or_right}
 use Rattle.pp_body.proofs.Patterns.{some_call}
 
--- what may follow, from the set or from the start if that is entered
+-- The calls that may follow, from the set or from the start if that is entered.
 abbrev pub Goes : Tree → ℕ → ℕ → Bool → List Call → Type 0
 Goes b at set m v = ((m ≡ true) × Word b v) ⊎ Rest b at set v
 

@@ -1,4 +1,4 @@
--- What `shift` keeps.
+-- The positions that `shift` keeps.
 use Rattle.std.proofs.Common.{◌≡◌, ◌≤◌, ◌<◌, ◌⊎◌, ℕ, ◌+◌, ◌^◌, Bool, true, false, ◌&&◌, ◌||◌, cond}
 use Rattle.std.proofs.Common.{List, [], ◌∷◌, ◌++◌, bit_or, max, refl, ap, sym, subst, ◌∙◌, inl, inr}
 use Rattle.std.proofs.Common.{arith}
@@ -50,7 +50,7 @@ single k i h =
 pub single_has : (k : ℕ) → has (2 ^ k) k ≡ true
 single_has k = (Decides-eqb (bit_at (2 ^ k) k) 1).1 (bit_at-pow_same k)
 
--- what may follow depends on the places of the body alone
+-- The calls that may follow depend on the places of the body alone.
 abbrev pub Along : ℕ → ℕ → ℕ → ℕ → Type 0
 Along from until s t = (i : ℕ) → from ≤ i → i < until → has s i ≡ true → has t i ≡ true
 
@@ -154,7 +154,7 @@ turn_after_second b bs at set m c v (inl (e, w)) =
     elim (ends_here b at set m e) [ inl g ↦ inl (g.0, ([], c ∷ v, refl, g.1, w)) | inr r ↦ inr (inl ([], c ∷ v, refl, r, w)) ]
 turn_after_second b bs at set m c v (inr r) = inr (inr r)
 
--- what may follow the new set, with the call before it
+-- The calls that may follow the new set, with the call before them.
 mutual
   -- Calls that may follow the set after a call may follow with the call before them.
   pub after : (b : Tree) (at set : ℕ) (m : Bool) (c : Call) (v : List Call) → Rest b at (shift b at set m c) v → Goes b at set m (c ∷ v)

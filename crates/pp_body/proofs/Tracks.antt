@@ -52,7 +52,7 @@ word_of : (b : Tree) (v : List Call) → Goes b 0 0 true v → Word b v
 word_of b v (inl h) = h.1
 word_of b v (inr r) = absurd (nothing_rests b 0 v r)
 
--- what `complete` tests
+-- If `complete` is true, the calls are a word.
 complete_is_word : (b : Tree) (w : List Call) → reaches false b 0 (state b 0 true w).0 (state b 0 true w).1 ≡ true → Word b w
 complete_is_word b w h =
     let r = reached false b 0 (state b 0 true w).0 (state b 0 true w).1 h in
@@ -67,7 +67,7 @@ word_is_complete b w h =
     reaching false b 0 (state b 0 true w).0 (state b 0 true w).1 [] (inr refl)
     (follows b 0 true w [] (inl (refl, subst (λ (x : List Call). Word b x) (nothing_more w) h)))
 
--- what `can` tests
+-- Calls that begin a word.
 abbrev Starts : Tree → List Call → Type 0
 Starts b w = (v : List Call) × Word b (w ++ v)
 
@@ -100,7 +100,7 @@ last_is set m (t ∷ (u ∷ ts)) d lt =
     let next : suc (length (u ∷ ts) - 1) ≡ length (t ∷ (u ∷ ts)) - 1 = omega arith in
     last_is t false (u ∷ ts) d (omega arith) ∙ ap (λ (n : ℕ). (get_or (t ∷ (u ∷ ts)) n d, false)) next
 
--- a walk's answers
+-- The result of `can` of a walk is whether the calls with this one begin a word.
 pub can_iff : (o : Option Tree) (b : Tree) (reached given : List ℕ) (c : Call) (r : Bool) (taken : List Call) → o ≡ Some b → given ≡ reached
     → r ≡ reaches true b 0 (shift b 0 (last_state 0 true given).0 (last_state 0 true given).1 c) false
     → IsTracked o taken reached → IsTrue r ↔ Begins o (taken ++ c ∷ [])

@@ -7,7 +7,7 @@ use Rattle.pp_body.specs.declared.moving.Moves.{Moves}
 use Rattle.pp_body.specs.Patterns.{matches}
 use Rattle.pp_body.specs.Positions.{has}
 
--- the set where the flag holds, else the empty set
+-- the set if the flag is true, else the empty set
 abbrev pub when : Bool → ℕ → ℕ
 when b s = cond b s 0
 
@@ -54,7 +54,7 @@ abbrev pub moves_one : Pattern → ℕ → ℕ → Call → Moves
 moves_one p at set c =
     record { moved = 0; fresh = when (matches p c) (2 ^ at); ended = has set at; skips = false }
 
--- what the call does in a body, in parts one after another, and in any one of them
+-- the effect of a call in a body, in parts one after another, and in any one of them
 abbrev mutual
   pub moves : Tree → ℕ → ℕ → Call → Moves
   moves Skip at set c = passing

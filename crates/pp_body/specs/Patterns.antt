@@ -5,7 +5,7 @@ use denote.Enum.Bare.{sameb}
 use Rattle.pp_core.specs.contracts.call.Method.{the_type}
 use Rattle.pp_model.specs.Body.{Pattern, Call}
 
--- no number given allows any number
+-- a pattern without a number allows any number
 abbrev pub is_allowed : Option ℤ → ℤ → Bool
 is_allowed None z = true
 is_allowed (Some y) z = int_eq y z

@@ -29,7 +29,7 @@ abbrev pub last_state : ℕ → Bool → List ℕ → ℕ × Bool
 last_state set entered [] = (set, entered)
 last_state set entered (t ∷ ts) = last_state t false ts
 
--- what a walk over the body keeps of these calls
+-- the positions that a walk over the body keeps for these calls
 abbrev pub IsTracked : Option Tree → List Call → List ℕ → Type 0
 IsTracked None taken reached = Unit {0}
 IsTracked (Some b) taken reached = reached ≡ sets_after b 0 true taken
@@ -57,12 +57,12 @@ can_end b reached =
     let last = last_state 0 true reached in
     reaches false b 0 last.0 last.1
 
--- The answer says whether the calls taken, followed by this one, begin a word.
+-- The result says whether the calls taken, followed by this one, begin a word.
 abbrev pub TellsBegins : Walked → Call → Bool → Type 0
 TellsBegins w c answer =
     (taken : List Call) → HasTaken w taken → IsTrue answer ↔ Begins w.body (taken ++ c ∷ [])
 
--- The answer says whether the calls taken are a word.
+-- The result says whether the calls taken are a word.
 abbrev pub TellsWord : Walked → Bool → Type 0
 TellsWord w answer = (taken : List Call) → HasTaken w taken → IsTrue answer ↔ IsWord w.body taken
 

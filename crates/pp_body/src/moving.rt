@@ -1,4 +1,4 @@
-//! What one call does to a set of positions, in one pass over the body.
+//! The effect of one call on a set of positions, in one pass over the body.
 ghost use Rattle.std.specs.Prelude.{◌≡◌, ◌+◌, ◌≤◌};
 ghost use Rattle.pp_core.specs.declared.limits.TheConstants.{MOST_BODY_NODES};
 ghost use Rattle.pp_core.specs.Trees.{tree, trees_of, nodes, nodes_of_all};
@@ -11,12 +11,12 @@ use crate::matching::matches;
 use crate::position::has;
 use pp_core::{Body, Call};
 
-/// What one call does in a part of a body.
+/// The effect of one call in a part of a body.
 #[derive(Clone, Copy)]
 struct Moves {
     /// The positions reached from the set.
     moved: u64,
-    /// The positions reached where the part is entered.
+    /// The positions reached if the part is entered.
     fresh: u64,
     /// Whether the end of the part is reached from the set.
     ended: bool,
@@ -24,7 +24,7 @@ struct Moves {
     skips: bool,
 }
 
-/// What every call does in a part that is passed with no call.
+/// The effect of every call in a part that is passed with no call.
 const PASSING: Moves = Moves {
     moved: 0,
     fresh: 0,
@@ -32,7 +32,7 @@ const PASSING: Moves = Moves {
     skips: true,
 };
 
-/// What every call does if there is no part.
+/// The effect of every call if there is no part.
 const NOWHERE: Moves = Moves {
     moved: 0,
     fresh: 0,

@@ -103,7 +103,7 @@ impl Walk {
         Ok(())
     }
 
-    /// Gives the last call back. It takes no memory.
+    /// Takes the last call back. It takes no memory.
     pub fn retreat(&mut self)
         requires { MayGoBack self.old }
         ensures body { self.new.body ≡ self.old.body }
@@ -112,7 +112,7 @@ impl Walk {
         let _ = self.reached.pop();
     }
 
-    /// The same as `follow`, of a walk that is given up: it does not outlive a refusal of memory.
+    /// The same as `follow`, but it consumes the walk, which is lost if memory runs out.
     pub fn take(mut self, call: Call) -> Result<Walk, OutOfMemory>
         requires { MayTake self call }
         ensures body { IfOk result (λ w. w.body ≡ self.body) }
@@ -123,7 +123,7 @@ impl Walk {
         Ok(self)
     }
 
-    /// The same as `retreat`, of a walk that is given up.
+    /// The same as `retreat`, but it consumes the walk.
     pub fn back(mut self) -> Walk
         requires { MayGoBack self }
         ensures body { result.body ≡ self.body }

@@ -30,6 +30,6 @@ HasDistinctNames objects =
     (name : List ℕ) (i j : ℕ) → slice_get (keys_of objects) i ≡ Some name
     → slice_get (keys_of objects) j ≡ Some name → i ≡ j
 
--- the objects, with one more at the end where it was added
+-- the objects, with one more at the end if it was added
 abbrev pub with_one_more : Bool → List ℕ → Kind → Objects → Objects
 with_one_more added name kind objects = if added then objects ++ (name, kind) ∷ [] else objects

@@ -6,7 +6,7 @@ use Rattle.pp_core.specs.declared.step.Step.{Step as StepOf}
 use Rattle.pp_core.specs.declared.step.Step.TheVariants as steps
 use Rattle.pp_core.specs.Trees.{Tree, tree}
 
--- What a transaction does at once: its name, and what the step names beside it.
+-- One act of a transaction: the transaction's name, and what the step needs.
 pub data Step (Op : Type 0) : Type 0 where
   Begin : (tx thread : List ℕ) → (body : Option Tree) → Step Op
   App : (tx : List ℕ) → (id : ℕ) → (op : Op) → Step Op

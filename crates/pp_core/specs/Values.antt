@@ -1,4 +1,4 @@
--- What value each id has.
+-- The value of each id.
 use Rattle.std.specs.Prelude.{◌≡◌, ◌==◌, ◌<◌, ◌⊎◌, ℕ, nat_eq, cond, List, Option}
 use Rattle.std.specs.Prelude.{is_some, length, slice_get}
 use Rattle.std.specs.Option.{option_flatten, option_or}

@@ -12,7 +12,7 @@ use Rattle.pp_core.specs.declared.member.Member.TheVariants as member
 use Rattle.pp_core.specs.declared.step.Rule.{Rule}
 use Rattle.pp_core.specs.declared.step.Rule.TheVariants as rule
 
--- of these the first whose word this is
+-- the first of these with this word
 abbrev pub named : {X : Type 0} → (X → List ℕ) → List X → List ℕ → Option X
 named word_of [] word = None
 named word_of (x ∷ xs) word = if bytes_eq word (word_of x) then Some x else named word_of xs word

@@ -5,7 +5,7 @@ ghost use Rattle.pp_core.specs.Words.{named, kind_word, kinds, method_word, styl
 
 use crate::sequence::Sequence;
 
-/// What an object of a run is.
+/// The kind of an object of a run.
 #[derive(Clone, Copy, Debug, PartialEq, Eq)]
 pub enum Kind {
     /// A memory of numbered cells, each 0 at first.
@@ -20,7 +20,7 @@ pub enum Kind {
     Queue,
     /// A last-in first-out stack.
     Stack,
-    /// A queue that gives the least item first.
+    /// A queue that returns the least item first.
     PriorityQueue,
 }
 
@@ -60,7 +60,7 @@ impl Kind {
 /// The kinds of the objects of a run, in their order.
 pub type Kinds = Sequence<Kind>;
 
-/// What a call does.
+/// The method of a call.
 #[derive(Clone, Copy, Debug, PartialEq, Eq)]
 pub enum Method {
     Read,

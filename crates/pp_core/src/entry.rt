@@ -2,7 +2,7 @@
 use crate::name::Name;
 use crate::sequence::Sequence;
 
-/// What an entry of a local log is.
+/// The mark of an entry of a local log.
 #[derive(Clone, Copy, Debug, PartialEq, Eq)]
 pub enum Mark {
     /// The transaction's own, and not in the shared log.

@@ -23,7 +23,7 @@ pub struct IdMap<T: Copy> {
     count: usize,
 }
 
-/// Whether the list may grow up to this position where so many values were set.
+/// Whether the list may grow up to this position, if this many values are set.
 fn is_near(at: usize, count: usize) -> bool {
     at / PLACES_FOR_EACH <= count.saturating_add(STEP)
 }
@@ -35,8 +35,8 @@ fn near_value<T: Copy>(near: &[Option<T>], at: usize) -> Option<T>
     *near.get(at)?
 }
 
-/// The value of the id in the hash table, if it has one there. An empty one is not asked, so that
-/// no hash is made.
+/// The value of the id in the hash table, if it has one there. No hash is made if the table is
+/// empty.
 fn far_value<T: Copy>(far: &IndexMap<u32, T>, id: u32) -> Option<T>
     ensures { result ≡ get nat_eq far.now id }
 {
@@ -94,7 +94,7 @@ impl<T: Copy> IdMap<T> {
         Ok(())
     }
 
-    /// Gives an id, for which there is room, this value.
+    /// Sets the value of an id, for which there is room.
     pub fn set(&mut self, id: u32, value: T)
         requires { HasRoomFor id self.old }
         ensures { Updates self.old self.new id (Some value) }

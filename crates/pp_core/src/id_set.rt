@@ -7,8 +7,7 @@ use crate::id_map::IdMap;
 use std::alloc::Global;
 use std::marker::Model;
 
-/// Ids, in the order in which they were added. The marks answer the calls; the list is what
-/// contracts see.
+/// Ids, in the order in which they were added. The calls use the marks; contracts see the list.
 #[derive(Drop)]
 pub struct IdSet {
     ids: Vec<u32>,

@@ -12,7 +12,7 @@ pub enum Status {
     ReadFault,
     WriteFault,
     OutOfMemory,
-    /// What there is to print is above a limit, and only its size was printed.
+    /// The output is above a limit, and only its size was printed.
     TooLarge,
 }
 

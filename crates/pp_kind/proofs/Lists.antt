@@ -1,4 +1,4 @@
--- Proof machinery: lists of operations, where they are cut, and one operation at the end.
+-- Proof machinery: lists of operations, cut in two parts, and with one operation at the end.
 use Rattle.std.proofs.Common.{◌≡◌, IsTrue, List, [], ◌∷◌, ◌++◌, ◌↔◌, refl, sym, ◌∙◌, ap, subst}
 use Rattle.std.proofs.Common.{Some}
 use Rattle.pp_kind.specs.Object.{Object, IsLegal, AllowedFrom, state_from, IsAllowed, state_after}
@@ -91,7 +91,7 @@ module _ {Shape State Op Undo : Type 0} (o : Object Shape State Op Undo) where
       let P : Shape × List Op → Type 0 = λ p. IsAllowed o p.0 (p.1 ++ a ∷ []) → IsLegal o s a in
       subst P e (λ k. last_is_legal (o.shape s) s x a h.is k)
 
-  -- what is seen of a log with one more operation
+  -- The operations of a log with one more operation.
   pub seen_one_more : (s t : State) (x y : List Op) (a : Op) (seen : Shape × List Op)
       → (o.shape s, x) ≡ seen → o.shape t ≡ o.shape s → y ≡ x ++ a ∷ []
       → ◌≡◌ {A = Shape × List Op} (o.shape t, y) (seen.0, seen.1 ++ a ∷ [])
@@ -100,7 +100,7 @@ module _ {Shape State Op Undo : Type 0} (o : Object Shape State Op Undo) where
       λ p. ◌≡◌ {A = Shape × List Op} (o.shape t, y) (p.0, p.1 ++ a ∷ []) in
       subst P e (rw (f, k) refl)
 
-  -- what commutes in each state that is reached swaps
+  -- A pair that commutes in each reached state swaps.
   pub commuting_swap : (a b : Op) → Commutes o a b → Swaps o a b
   commuting_swap a b h shape =
       record {

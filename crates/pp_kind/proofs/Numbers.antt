@@ -1,4 +1,4 @@
--- Calls of fewer arguments than three have ranged arguments where these lie in the range.
+-- Calls with fewer than three arguments have ranged arguments if these are in the range.
 use Rattle.std.proofs.Common.{◌≡◌, ◌&&◌, ◌∙◌, ℤ, pos, true}
 use Rattle.std.proofs.Math.Bool.{and-true}
 use Rattle.pp_kind.specs.Numbers.{in_range}

@@ -6,7 +6,7 @@ use Rattle.pp_kind.proofs.Lists.{allowed-first, allowed-second, state-append}
 use Rattle.pp_kind.proofs.Places.{reached_is_state, tells_states}
 
 module _ {Shape State Op Undo : Type 0} (o : Object Shape State Op Undo) (laws : IsLawful o) where
-  -- The pair may be turned where it is.
+  -- A pair that swaps may be turned in the middle of an allowed list.
   pub turned : (sh : Shape) (x y : List Op) (a b : Op) → Swaps o a b → IsAllowed o sh (x ++ a ∷ b ∷ y)
       → IsAllowed o sh ((x ++ b ∷ []) ++ a ∷ y)
   turned sh x y a b swaps h =
@@ -41,7 +41,7 @@ module _ {Shape State Op Undo : Type 0} (o : Object Shape State Op Undo) (laws :
       ∙ (ap (state_after o sh) (sym (append_assoc x y (a ∷ [])))
       ∙ state-append o (o.start sh) (x ++ y) (a ∷ []))
 
-  -- a pair where it is
+  -- A pair of operations that are legal in a state, one after the other.
   pub record IsPair (s : State) (a b : Op) : Type 0 where
     pub is_state : o.upkeep.IsState s
     pub first : IsLegal o s a

@@ -48,8 +48,7 @@ module _ {Shape State Op Undo : Type 0} (o : Object Shape State Op Undo) (laws :
   pub swaps_nowhere : (a b : Op) → (Swaps o a b → ⊥) → SwapsNowhere o a b
   swaps_nowhere a b h = nowhere_by a b (o.refuting a b) refl (laws.refuted a b) h
 
-  -- two lists lead to one state where the first is allowed, and all that is allowed after it is
-  -- allowed after the second
+  -- Two lists lead to one state if the first is allowed, and all that is allowed after it is allowed after the second.
   pub tells_states : (sh : Shape) → TellsStates (rules_of o sh)
   tells_states sh x y h also =
       let k : IsAllowed o sh y = allowed-first o (o.start sh) y []
@@ -101,7 +100,7 @@ module _ {Shape State Op Undo : Type 0} (o : Object Shape State Op Undo) (place_
       ∙ (ap (state_after o sh) (sym (append_assoc x y (a ∷ [])))
       ∙ state-append o (o.start sh) (x ++ y) (a ∷ []))
 
-  -- what is kept of it does not depend on them
+  -- The undo value of an operation does not depend on later operations of other places.
   kept_behind : (sh : Shape) (x y : List Op) (a : Op) → AllElsewhere place_of (place_of a) y
       → o.upkeep.kept (state_after o sh x) a ≡ o.upkeep.kept (state_after o sh (x ++ y)) a
   kept_behind sh x y a e =

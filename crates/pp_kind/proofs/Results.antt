@@ -3,7 +3,7 @@ use Rattle.std.proofs.Common.{◌≡◌, ℤ, Option, Some, None, refl}
 use Rattle.pp_kind.specs.Found.{answer_of, is_ranged_found}
 use Rattle.pp_kind.specs.Numbers.{is_ranged_answer}
 
--- One result tells one thing found.
+-- One result is that of one value found.
 pub same_found : (c d : Option ℤ) → answer_of c ≡ answer_of d → c ≡ d
 same_found None None e = refl
 same_found None (Some y) e = cc

@@ -12,7 +12,7 @@ in_there [] i d h = absurd (omega arith)
 in_there (x ∷ xs) zero d h = inl refl
 in_there (x ∷ xs) (suc i) d h = inr (in_there xs i d (omega arith))
 
--- what holds of each holds of one of them
+-- What is true for all elements of a list is true for each one.
 pub of_each : {A : Type 0} (P : A → Type 0) (xs : List A) (x : A) → All P xs → In x xs → P x
 of_each P [] x h there = elim there [ ]
 of_each P (y ∷ xs) x h (inl e) = subst P (sym e) (h 0 y (omega arith))
@@ -24,7 +24,7 @@ pub first_push : {A : Type 0} (first : Option A) (others more : List A) (x : A)
 first_push None others more x e = e
 first_push {A} (Some y) others more x e = ap (λ (l : List A). y ∷ l) e
 
--- what holds of the first and of each other holds of all
+-- What is true for the first element and for all others is true for all.
 pub all_of_both : {A : Type 0} (P : A → Type 0) (first : Option A) (others : List A)
     → All P (first_and first []) → All P others → All P (first_and first others)
 all_of_both P None others h rest = rest

@@ -5,8 +5,7 @@ use Rattle.pp_kind.specs.Object.{Object, IsAllowed, AllRanged, Swaps, SwapsNowhe
 use Rattle.pp_kind.specs.Object.{IsRefutedBy, Commutes}
 use Rattle.pp_kind.proofs.Lists.{commuting_swap, refuted_nowhere}
 
--- The pairs that the test lets swap commute, and the lists show of each other pair that it does not
--- swap.
+-- The pairs that the test allows to swap commute, and for each other pair the lists show that it does not swap.
 pub record IsTold {State Op Undo : Type 0} (o : Object (Unit {0}) State Op Undo)
     (test : Op → Op → Bool) (lists : Op → Op → List Op × List Op) : Type 0 where
   pub refuting : (a b : Op) → o.refuting a b ≡ (if test a b then None else Some (lists a b))

@@ -11,7 +11,7 @@ abbrev pub lists_of : {Op : Type 0} → Option (Context Op) → Option (List Op 
 lists_of found = option_map (λ c. (c.before, c.after)) found
 
 module _ {Shape State Op Undo : Type 0} (o : Object Shape State Op Undo) where
-  -- What `apply` returns in a state, and the state that it leaves.
+  -- The result of `apply` in a state, and the state that it leaves.
   abbrev pub Applies : State → Op → Result (Applied Undo) OutOfMemory → State → Type 0
   Applies old op (Ok (Done undo)) new =
       (o.gives old op ≡ o.recorded op) × (undo ≡ o.upkeep.kept old op) × (new ≡ o.next old op)

@@ -9,7 +9,7 @@ abbrev pub answer_of : Option ℤ → Answer
 answer_of None = answers.None
 answer_of (Some x) = answers.Number x
 
--- what was found, if anything was, lies in the range of records
+-- the value that was found, if any, is in the range of records
 abbrev pub is_ranged_found : Option ℤ → Bool
 is_ranged_found None = true
 is_ranged_found (Some x) = in_range x

@@ -1,4 +1,5 @@
--- Meaning: which numbers pass a gate, and which gates let by only what a condition holds of.
+-- Meaning: which numbers pass a gate, and which gates let only those pass for which a condition is
+-- true.
 use Rattle.std.specs.Prelude.{◌≡◌, ℕ, ℤ, pos, Bool, true, false, not, int_le, IsTrue}
 use Rattle.std.specs.Ordering.{int_eq}
 use Rattle.pp_kind.specs.declared.gate.Gate.{Gate}
@@ -24,12 +25,13 @@ IsRead To x number = x.to ≡ number
 IsRead From x number = x.from ≡ number
 IsRead Still x number = (x.from ≡ number) × (x.to ≡ number) × (x.shift ≡ pos 0)
 
--- of each first operation whose number passes, and a second with the figures y, the condition holds
+-- the condition is true for each first operation whose number passes, and a second one with the
+-- figures y
 abbrev pub IsGateOf : Condition → Reading → Figures → Gate → Type 0
 IsGateOf condition reading y gate = (x : Figures) (number : ℤ) → IsRead reading x number →
     IsTrue (passes gate number) → IsTrue (condition_holds condition x y)
 
--- of each first operation of a form whose number passes, and the second, the relation R holds
+-- the relation R is true for each first operation of a form whose number passes, and the second one
 abbrev pub IsGateBefore : {Op : Type 0} → (Op → ℕ) → (Op → ℤ) → (Op → Op → Type 0) → ℕ → Op →
     Gate → Type 0
 IsGateBefore {Op} form_of number_of R form b gate =

@@ -13,9 +13,9 @@ use Rattle.pp_model.specs.Object.{AllowedBy, state_by}
 -- operations it knows to swap with one another. No list that is allowed, no swap and no result
 -- depends on it.
 pub record Upkeep (State Op Undo : Type 0) : Type 1 where
-  -- it is the state of some run, as far as the laws ask
+  -- it is the state of some run, as far as the laws require
   pub IsState : State → Type 0
-  -- what is kept of a state to take an operation back there
+  -- the undo value that is kept in a state, to take an operation back there
   pub kept : State → Op → Undo
   -- the state that this brings back
   pub back : State → Op → Undo → State
@@ -142,7 +142,7 @@ module _ {Shape State Op Undo : Type 0} (o : Object Shape State Op Undo) where
     pub ranged_before : IsTrue (o.ranged a) → IsTrue (o.ranged b) → AllRanged before
     pub ranged_after : IsTrue (o.ranged a) → IsTrue (o.ranged b) → AllRanged after
 
-  -- The lists that refute a pair, where there are any.
+  -- The lists that refute a pair, if there are any.
   abbrev pub IsRefutedBy : Op → Op → Option (List Op × List Op) → Type 0
   IsRefutedBy a b None = Unit {0}
   IsRefutedBy a b (Some lists) = Refutes a b lists.0 lists.1
@@ -175,7 +175,7 @@ module _ {Shape State Op Undo : Type 0} (o : Object Shape State Op Undo) where
         o.upkeep.back (state_after shape (x ++ a ∷ y)) a (o.upkeep.kept (state_after shape x) a)
         ≡ state_after shape (x ++ y)
 
-  -- What each kind of object promises.
+  -- The laws of each kind of object.
   pub record IsLawful : Type 0 where
     -- the start has its shape, and is a state
     pub start_shape : (shape : Shape) → o.shape (o.start shape) ≡ shape
@@ -184,7 +184,7 @@ module _ {Shape State Op Undo : Type 0} (o : Object Shape State Op Undo) where
     pub next_shape : (s : State) (op : Op) → IsLegal s op → o.shape (o.next s op) ≡ o.shape s
     pub next_is_state : (s : State) (op : Op) → o.upkeep.IsState s → IsLegal s op
         → o.upkeep.IsState (o.next s op)
-    -- what is taken back was as if it had not been
+    -- taking an operation back leads to the state before it
     pub taken_back : (s : State) (op : Op) → o.upkeep.IsState s → IsLegal s op
         → o.upkeep.back (o.next s op) op (o.upkeep.kept s op) ≡ s
     -- states of one shape are equal if all that is allowed from the first is allowed from the
@@ -201,7 +201,7 @@ module _ {Shape State Op Undo : Type 0} (o : Object Shape State Op Undo) where
     pub unrefuted : (a b : Op) → (o.refuting a b ≡ None) ↔ Swaps a b
     pub refuted : (a b : Op) → IsRefutedBy a b (o.refuting a b)
 
--- The operation lets each of these pass: each of them moves left over it.
+-- Each of these moves left over the operation.
 abbrev pub LetsPass : {Shape State Op Undo : Type 0} → Object Shape State Op Undo → Op → List Op →
     Type 0
 LetsPass o a [] = Unit {0}
@@ -219,8 +219,8 @@ module _ {Shape State Op Undo : Type 0} (o : Object Shape State Op Undo) (place_
       (shape : Shape) (x y : List Op) (a : Op) → AllElsewhere place_of (place_of a) y
       → IsAllowed o shape (x ++ a ∷ y) → IsUndoneBehind o shape x y a
 
-  -- What a kind of several objects promises: SameAt p s t says that the object at the place p is in
-  -- t as it is in s.
+  -- The laws of a kind of several objects. SameAt p s t says that the object at the place p is in t
+  -- as it is in s.
   pub record IsPlaced (SameAt : ℕ → State → State → Type 0) : Type 0 where
     -- to be the same at a place is an equivalence
     pub same : (p : ℕ) (s : State) → SameAt p s s

@@ -8,7 +8,7 @@ use Rattle.pp_kind.specs.Gates.{IsGateBefore}
 use Rattle.pp_kind.specs.declared.label.Label.{Label}
 use Rattle.pp_kind.specs.declared.part.Part.{Part}
 
--- What is known of the operations that were added.
+-- The known facts about the operations that were added.
 pub record SampleList (Op : Type 0) : Type 0 where
   -- some of them, which represent the others
   pub ops : List Op

@@ -9,7 +9,7 @@ use Rattle.pp_kind.specs.declared.table.Condition.TheVariants.{Settled, Apart, F
 use Rattle.pp_kind.specs.declared.table.Condition.TheVariants.{IntoApart, Rising, Falling}
 use Rattle.pp_kind.specs.declared.table.Figures.{Figures}
 
--- whether a condition holds of the figures x of the first operation and y of the second
+-- whether a condition is true for the figures x of the first operation and y of the second
 abbrev pub condition_holds : Condition → Figures → Figures → Bool
 condition_holds Always x y = true
 condition_holds Never x y = false

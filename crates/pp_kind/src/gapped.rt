@@ -23,13 +23,13 @@ pub enum Crossed<G, U> {
     /// By this gap. If the first state bears it, the operation is legal in the second too, and
     /// keeps the same there.
     Apart(G),
-    /// That is not known: it may not be legal in the second.
+    /// It is not known: the operation may not be legal in the second state.
     Unknown,
 }
 
 /// A kind that can describe how a state differs from the one that would be there without one of its
-/// operations: by a gap between the two, which each later operation crosses. A log asks for it to
-/// remove one entry from its midst without applying all later ones again.
+/// operations: by a gap between the two, which each later operation crosses. A log requires it to
+/// remove one entry from its middle without applying all later ones again.
 pub trait Gapped: Spec {
     /// How the two differ.
     type Gap: Copy;
@@ -50,7 +50,7 @@ pub trait Gapped: Spec {
     fn cross(gap: &Self::Gap, op: &Self::Op) -> Crossed<Self::Gap, Self::Undo>
         ensures { Crosses Self.object Bears Differ gap.now op.now result };
 
-    /// Whether the state has what was asked of the other one. False says nothing.
+    /// Whether the state meets what was required of the other one. False says nothing.
     fn bears(gap: &Self::Gap, state: &Self::State) -> bool
         ensures { IsTrue result → Bears gap.now state.now };
 

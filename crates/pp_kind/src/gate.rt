@@ -2,7 +2,7 @@
 ghost use Rattle.std.specs.Prelude.{◌≡◌};
 ghost use Rattle.pp_kind.specs.Gates.{passes};
 
-/// Which numbers pass. A number is read of each first operation of a form; each whose number passes
+/// The numbers that pass. Each first operation of a form has a number; each one whose number passes
 /// is known to swap with one second operation.
 #[derive(Clone, Copy, Debug, PartialEq, Eq)]
 pub enum Gate {

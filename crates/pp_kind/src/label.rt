@@ -1,4 +1,4 @@
-//! What gates read of operations.
+//! The parts of operations that gates read.
 
 /// The form of an operation that gates know, and the one number of it that they read.
 #[derive(Clone, Copy, Debug, PartialEq, Eq)]

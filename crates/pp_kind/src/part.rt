@@ -5,7 +5,7 @@ ghost use Rattle.pp_kind.specs.Words.{part_word, parts_alike};
 
 use std::hash::{Hash, Hasher};
 
-/// What an operation is about: its object, and the key there.
+/// The part of an operation: its object, and the key there.
 #[derive(Clone, Copy, Debug, PartialEq, Eq)]
 pub struct Part {
     /// The place of the object.

@@ -9,9 +9,9 @@ use crate::label::Label;
 use crate::part::Part;
 use crate::spec::Placed;
 
-/// A kind of several objects, of which each operation has one, and there one part. Operations of
-/// different parts swap. The two logs and the machine ask for it: whether an operation swaps with all
-/// entries is then mostly decided by a few entries of its own part.
+/// A kind of several objects. Each operation has one object, and one part of it. Operations of
+/// different parts swap. The two logs and the machine require it: whether an operation swaps with
+/// all entries is then mostly decided by a few entries of its own part.
 pub trait Parted: Placed + Gapped {
     ghost use Rattle.std.specs.Prelude.{◌≡◌, IsTrue};
     ghost use Rattle.pp_kind.specs.declared.label.Label.{Label as LabelOf};
@@ -33,7 +33,7 @@ pub trait Parted: Placed + Gapped {
     fn label(op: &Self::Op) -> Label
         ensures { result ≡ label_of op.now };
 
-    /// Which operations of a form are known to swap with this one after them, by their numbers.
+    /// The operations of a form that are known to swap with this one after them, by their numbers.
     fn gate(form: usize, op: &Self::Op) -> Gate
         ensures { IsGate Self.object label_of form op.now result };
 

@@ -1,4 +1,4 @@
-//! The traits of a kind: its calls, each with its meaning, and the laws that hold of every kind.
+//! The traits of a kind: its calls, each with its meaning, and the laws of every kind.
 ghost use Rattle.std.specs.Prelude.{◌≡◌, ◌≢◌, ◌+◌, ℕ, false, IsTrue, IfOk, OnOk, OnErr, ◌↔◌};
 ghost use Rattle.pp_model.specs.Object.{TellsStates};
 ghost use Rattle.pp_kind.specs.Object.{Object, Swaps, SwapsNowhere, FitNowhere};
@@ -9,7 +9,7 @@ use pp_core::{Answer, Call, Ops, OutOfMemory, Ticks};
 use std::alloc::Global;
 use std::sync::ledger::Ledger;
 
-/// What `apply` did.
+/// The outcome of `apply`.
 #[derive(Drop)]
 pub enum Applied<U> {
     /// The operation took effect, and this takes it back.
@@ -26,8 +26,8 @@ pub struct Context<O> {
     pub after: Ops<O>,
 }
 
-/// A kind of objects. Each operation carries the result that was recorded for it. The attempts of a
-/// run and the certificates ask for this alone.
+/// A kind of objects. Each operation carries its recorded result. The attempts of a run and the
+/// certificates require only this.
 pub trait Spec: Drop {
     /// Which objects there are.
     type Shape: Drop;
@@ -38,10 +38,10 @@ pub trait Spec: Drop {
     /// A call with its recorded result.
     type Op: Copy;
 
-    /// What `apply` keeps, so that `undo` can take it back.
+    /// The undo value that `apply` keeps for `undo`.
     type Undo: Drop;
 
-    /// What the kind means.
+    /// The meaning of the kind.
     ghost object: { Object Self.Shape Self.State Self.Op Self.Undo };
 
     /// The objects before any operation. The only error is out of memory.
@@ -116,9 +116,9 @@ pub trait Spec: Drop {
     ghost lawful: { IsLawful object };
 }
 
-/// A kind of several objects, of which each operation has one. An operation looks at its own object
-/// only, and changes no other. Laws about places ask for this alone. A log asks for it to find the
-/// operations of one object.
+/// A kind of several objects. Each operation has one object, looks at it only, and changes no
+/// other. Laws about places require only this. A log requires it to find the operations of one
+/// object.
 pub trait Placed: Spec {
     /// The place of an operation's object.
     ghost place_of: { Self.Op → ℕ };
@@ -143,8 +143,8 @@ pub fn commuting_operations_swap<S: Spec>()
     ensures { (a b : S.Op) → Commutes S.object a b → Swaps S.object a b }
 {}
 
-/// Two lists lead to one state where the first is allowed, and all that is allowed after it is
-/// allowed after the second.
+/// Two lists lead to one state if the first is allowed, and all that is allowed after it is allowed
+/// after the second.
 pub fn futures_tell_states<S: Spec>()
     ensures { (shape : S.Shape) → TellsStates (rules_of S.object shape) }
 {}

@@ -13,28 +13,28 @@ pub enum Condition {
     Always,
     /// Never.
     Never,
-    /// Where both lead to one number.
+    /// Both lead to one number.
     Equal,
-    /// Where the first does not lead to the number that the second starts from.
+    /// The first does not lead to the number that the second starts from.
     Unequal,
-    /// Where the first does not lead to the number that the second starts from, or neither leads
-    /// away from that number.
+    /// The first does not lead to the number that the second starts from, or neither leads away
+    /// from that number.
     Chain,
-    /// Where the first shifts nothing.
+    /// The first shifts nothing.
     FirstStill,
-    /// Where the second shifts nothing.
+    /// The second shifts nothing.
     SecondStill,
-    /// If both lead to one number, and the first shifts nothing.
+    /// Both lead to one number, and the first shifts nothing.
     Settled,
-    /// Where the two lead to different numbers.
+    /// The two lead to different numbers.
     Apart,
-    /// Where the first does not start from the number that the second leads to, or leads there.
+    /// The first does not start from the number that the second leads to, or leads there.
     FromApart,
-    /// Where the second does not lead to the number that the first leads to, or starts from it.
+    /// The second does not lead to the number that the first leads to, or starts from it.
     IntoApart,
-    /// Where the first leads to no greater number than the second.
+    /// The first leads to no greater number than the second.
     Rising,
-    /// Where the second leads to no greater number than the first.
+    /// The second leads to no greater number than the first.
     Falling,
 }
 
@@ -45,12 +45,12 @@ pub struct Figures {
     pub from: i128,
     /// The number that it leads to.
     pub to: i128,
-    /// What it adds.
+    /// The number that it adds.
     pub shift: i128,
 }
 
 impl Condition {
-    /// Whether it holds of the figures of a first and a second operation.
+    /// Whether it is true for the figures of a first and a second operation.
     #[inline(always)]
     pub fn holds(self, x: &Figures, y: &Figures) -> bool
         ensures { result ≡ condition_holds self x.now y.now }
@@ -74,7 +74,7 @@ impl Condition {
         }
     }
 
-    /// Its gate where the number that the first leads to is read.
+    /// Its gate if the number that the first leads to is read.
     #[inline(always)]
     fn gate_to(self, y: &Figures) -> Gate
         ensures { IsGateOf self To y.now result }
@@ -96,7 +96,7 @@ impl Condition {
         }
     }
 
-    /// Its gate where the number that the first starts from is read.
+    /// Its gate if the number that the first starts from is read.
     #[inline(always)]
     fn gate_from(self, y: &Figures) -> Gate
         ensures { IsGateOf self From y.now result }
@@ -109,7 +109,7 @@ impl Condition {
         }
     }
 
-    /// Its gate where the first starts from the number that it leads to, and shifts nothing.
+    /// Its gate if the first starts from the number that it leads to, and shifts nothing.
     #[inline(always)]
     fn gate_still(self, y: &Figures) -> Gate
         ensures { IsGateOf self Still y.now result }
@@ -127,8 +127,8 @@ impl Condition {
         }
     }
 
-    /// Which first operations are known to meet it with a second of these figures, by one number of
-    /// theirs alone.
+    /// The first operations that are known to meet it with a second of these figures, by one of
+    /// their numbers alone.
     #[inline(always)]
     pub fn gate(self, reading: Reading, y: &Figures) -> Gate
         ensures { IsGateOf self reading y.now result }
@@ -167,7 +167,7 @@ impl<const N: usize> MoverTable<N> {
         self.rows[a][b]
     }
 
-    /// Whether the entry of a pair of forms holds of these figures.
+    /// Whether the entry of a pair of forms is true for these figures.
     #[inline(always)]
     pub fn holds(&self, a: usize, x: &Figures, b: usize, y: &Figures) -> bool
         requires row { a < N }
@@ -177,8 +177,8 @@ impl<const N: usize> MoverTable<N> {
         self.condition(a, b).holds(x, y)
     }
 
-    /// Which first operations of the form of a row are known to meet their entry with a second of
-    /// these form and figures. None has a form that has no row.
+    /// The first operations of the form of a row that are known to meet their entry with a second
+    /// of this form and these figures. None has a form without a row.
     #[inline(always)]
     pub fn gate(&self, a: usize, reading: Reading, b: usize, y: &Figures) -> Gate
         requires column { b < N }

@@ -1,13 +1,12 @@
-//! What is asked of a kind so that operations in the midst of a log can be taken back alone.
+//! The requirements on a kind so that operations in the middle of a log can be taken back alone.
 ghost use Rattle.std.specs.Prelude.{◌≡◌, false, IsTrue};
 ghost use Rattle.pp_kind.specs.Object.{KeptAs, MayKeep, Swaps};
 
 use crate::spec::Placed;
 
-/// A kind of several objects, of which an operation can be taken back alone if all later ones may
-/// move left over it. Only `quick` asks for it: it takes the own entries of an abort or a retry out
-/// of the shared log. The two methods say what becomes of undo values when two operations change
-/// places.
+/// A kind of several objects in which an operation can be taken back alone if all later ones may
+/// move left over it. Only `quick` requires it: it takes the own entries of an abort or a retry out
+/// of the shared log. The two methods describe the undo values when two operations change places.
 pub trait TakesBack: Placed {
     /// How an operation and a later one on its object keep their undo values, if the later one may
     /// move left over it. The undo value of the later one decides. True: in turn. The one that

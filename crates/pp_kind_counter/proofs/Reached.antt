@@ -23,7 +23,7 @@ below n (Add by ∷ ops) r = let h = below (n +ℤ by) ops r.1 in grind (arith, 
 below n (Get value ∷ ops) r = let h = below (n +ℤ pos 0) ops r.1 in grind (arith, ints)
 below n (FetchAdd by was ∷ ops) r = let h = below (n +ℤ by) ops r.1 in grind (arith, ints)
 
--- What a state that is reached lies in.
+-- A number that is reached is at most this bound.
 pub reached_high : (n : ℤ) → IsReached counter n → n ≤ℤ pos 4_294_967_552_000_000_000_000_000_000
 reached_high n h =
     let k = above (pos 0) h.ops h.log.ranged in

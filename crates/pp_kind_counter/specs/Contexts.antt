@@ -7,8 +7,8 @@ use Rattle.pp_kind_counter.specs.declared.op.CounterOp.{CounterOp}
 use Rattle.pp_kind_counter.specs.declared.op.CounterOp.TheVariants.{Add, Get, FetchAdd}
 use Rattle.pp_kind_counter.specs.Movers.{may_swap}
 
--- none where x is zero, one where it lies in the range, or two, of which the first adds the
--- greatest number or the least
+-- none if x is zero, one if it is in the range, or two, of which the first adds the greatest number
+-- or the least
 abbrev pub reach_by : (zero inside up : Bool) → ℤ → List CounterOp
 reach_by true inside up x = []
 reach_by false true up x = Add x ∷ []
@@ -33,10 +33,10 @@ pair_begins (Add by) (Add more) = pos 0
 pair_begins (Add by) (Get value) = value -ℤ by
 pair_begins (Add by) (FetchAdd more was) = was -ℤ by
 
--- what is before and after such a pair
+-- the operations before and after such a pair
 abbrev pub lists_round : CounterOp → CounterOp → List CounterOp × List CounterOp
 lists_round a b = (reach (pair_begins a b), [])
 
--- where it does not swap
+-- the refuting lists of a pair, if it does not swap
 abbrev pub refuting_lists : CounterOp → CounterOp → Option (List CounterOp × List CounterOp)
 refuting_lists a b = if may_swap a b then None else Some (lists_round a b)

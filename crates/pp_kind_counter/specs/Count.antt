@@ -25,6 +25,6 @@ counter = record {
   };
 }
 
--- the numbers are one, where the place is the counter's
+-- the numbers are equal, if the place is the counter's
 abbrev pub SameAt : ℕ → ℤ → ℤ → Type 0
 SameAt p n m = p ≡ 0 → n ≡ m

@@ -2,7 +2,7 @@
 use Rattle.std.specs.Prelude.{◌≡◌, ℤ, ◌+ℤ◌}
 use Rattle.pp_kind_counter.specs.declared.gap.CounterGap.{CounterGap}
 
--- nothing is asked of the number
+-- there is no condition on the number
 abbrev pub Bears : CounterGap → ℤ → Type 0
 Bears g n = Unit {0}
 

@@ -25,7 +25,7 @@ figures_of (FetchAdd by was) = record { from = was; to = was +ℤ by; shift = by
 abbrev pub number_of : CounterOp → ℤ
 number_of op = (figures_of op).to
 
--- the form that its gates know: its row, and another where it leaves the number that it finds
+-- the form in its gates: its row, or another one if it leaves the number that it finds
 abbrev pub gate_form_of : CounterOp → ℕ
 gate_form_of (Add by) = if int_eq by (pos 0) then 3 else 0
 gate_form_of (Get value) = 4

@@ -30,7 +30,7 @@ recorded_by (Add by) = NoAnswer
 recorded_by (Get value) = Number value
 recorded_by (FetchAdd by was) = Number was
 
--- what a counter at this number returns
+-- the result of a counter at this number
 abbrev pub given_by : ℤ → CounterOp → Answer
 given_by n (Add by) = NoAnswer
 given_by n (Get value) = Number n

@@ -1,4 +1,4 @@
-//! The operations that show of a pair that it does not swap.
+//! The operations that show that a pair does not swap.
 ghost use Rattle.std.specs.Prelude.{pos, negsuc, ◌≤ℤ◌, ◌≡◌, IfOk, ◌++◌, [], ◌∷◌};
 ghost use Rattle.pp_kind_counter.specs.Contexts.{reach, pair_begins};
 

@@ -30,7 +30,7 @@ impl Gapped for Count {
         }
     }
 
-    /// An operation that tells the number tells another one in the other state.
+    /// An operation whose result shows the number has another result in the other state.
     #[inline(always)]
     fn cross(gap: &CounterGap, op: &CounterOp) -> Crossed<CounterGap, ()> {
         match *op {

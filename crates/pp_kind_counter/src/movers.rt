@@ -47,7 +47,7 @@ fn figures(op: &CounterOp) -> Figures
     }
 }
 
-/// The form that its gates know: its row, and another where it leaves the number that it finds.
+/// The form in its gates: its row, or another one if it leaves the number that it finds.
 #[inline(always)]
 pub fn gate_form(op: &CounterOp) -> usize
     ensures { result ≡ gate_form_of op.now }
@@ -86,7 +86,7 @@ pub fn may_swap(a: &CounterOp, b: &CounterOp) -> bool
     mover_table().holds(form(a), &figures(a), form(b), &figures(b))
 }
 
-/// Which operations of a form are known to swap with this one after them, by their numbers.
+/// The operations of a form that are known to swap with this one after them, by their numbers.
 #[inline(always)]
 pub fn gate(first: usize, op: &CounterOp) -> Gate
     ensures { IsGateBefore gate_form_of number_of (Swaps counter) first op.now result }

@@ -10,7 +10,7 @@ use Rattle.pp_kind_keyed.proofs.Rule.{refused_follows, refused_turned}
 
 module _ {State Op Undo Cell : Type 0} (o : Object (Unit {0}) State Op Undo)
     (k : Keys State Op Cell) (acts : IsKeyed o k) where
-  -- what an operation leaves at its key and at the others
+  -- The cells that an operation leaves at its key and at the others.
   pub left_here : (s : State) (a : Op) (q : ℤ) → q ≡ k.key a → IsLegal o s a
       → k.cell (o.next s a) q ≡ k.left a (k.cell s q)
   left_here s a q e h = acts.next_cell s a q h
@@ -141,7 +141,7 @@ module _ {State Op Undo Cell : Type 0} (o : Object (Unit {0}) State Op Undo)
       let one = lets_turned k.alike alike_is (k.found a) (k.left a) (k.found b) (k.left b) r g in
       (h ∙ one.2, one.1, one.0)
 
-  -- and what leads there shows of each other pair that it does not swap
+  -- The operations that lead to such a cell show, for each pair that the rule does not allow to swap, that it does not swap.
   pub rule_shows : (a b : Op) (before : List Op) → rule_lets k a b ≡ false → IsAllowed o tt before
       → k.cell (state_after o tt before) (k.key a) ≡ k.found a
       → Shows o (told_keys k) a b before []

@@ -22,7 +22,7 @@ both : (a b : Bool) → T a → T b → T (a && b)
 both true b p q = q
 both false b p q = p
 
--- What entries have at a key, and what their map has there.
+-- Finding a key in entries is looking it up in their map.
 found : {X : Type 0} (es : List (ℤ × X)) (q : ℤ) → find int_cmp q es ≡ lookup (is_at (int_cmp q)) es
 found [] q = refl
 found (e ∷ es) q = ap (cond (is_at (int_cmp q) e.0) (Some e.1)) (found es q)
@@ -52,7 +52,7 @@ removed es fs k h = same_map int_cmp_total int_cmp-IsAntisymmetric _ _ (λ q.
     ∙ sym (get-remove int_cmp_total (from_entries es) k q
     ∙ ap (cond (is_at (int_cmp q) k) None) (got es q)))
 
--- The same of the map as it is seen, at a key and a number as they are stored.
+-- The same for the map as it is seen, with a key and a number as they are stored.
 pub got_seen : {X : Type 0} (es : List (ℤ × X)) (seen : FinMap int_cmp X) (k j : ℤ) (r : Option X)
     → from_entries es ≡ seen → j ≡ k → r ≡ lookup (is_at (int_cmp j)) es → r ≡ get seen k
 got_seen {X} es seen k j r e f h =
@@ -77,14 +77,14 @@ pub removed_seen : {X : Type 0} (es fs : List (ℤ × X)) (seen : FinMap int_cmp
 removed_seen {X} es fs seen k j e f h =
     removed es fs j h ∙ ap (λ (m : FinMap int_cmp X). remove m j) e ∙ ap (remove seen) f
 
--- What is written back as it was found changes nothing.
+-- Writing back what was found changes nothing.
 pub kept_seen : {X : Type 0} (es fs : List (ℤ × X)) (seen : FinMap int_cmp X) (j : ℤ) (v : X)
     → from_entries es ≡ seen → Some v ≡ lookup (is_at (int_cmp j)) es
     → fs ≡ set_value (is_at (int_cmp j)) es v → from_entries {R = int_cmp} fs ≡ seen
 kept_seen es fs seen j v e r h =
     ap (λ gs. from_entries {R = int_cmp} gs) (h ∙ set_value_same (is_at (int_cmp j)) es v (sym r)) ∙ e
 
--- Whether a number is the one that was asked for.
+-- If a test finds a difference, the number that was found is not the required one.
 pub is_other : (was : Option ℤ) (n : ℤ) → true ≡ not (option_eq int_eq was (Some n))
     → was ≡ Some n → ⊥
 is_other None n e h = cc
@@ -94,7 +94,7 @@ is_other (Some m) n e h = differs (int_eq m n) e (key_is m n cc)
     differs true e f = cc
     differs false e f = cc
 
--- If a test finds no difference, the number that was found is the one that was asked for.
+-- If a test finds no difference, the number that was found is the required one.
 pub is_asked : (was : Option ℤ) (n : ℤ) → false ≡ not (option_eq int_eq was (Some n))
     → was ≡ Some n
 is_asked None n e = cc
@@ -104,7 +104,7 @@ is_asked (Some m) n e = ap Some (same_key m n (alike (int_eq m n) e))
     alike true e = refl
     alike false e = cc
 
--- Entries whose keys ascend are those of their map.
+-- Entries with ascending keys are the entries of the map that they make.
 below : {X : Type 0} (k : ℤ) (es : List (ℤ × X))
     → AllByRecursion (λ (q : ℤ). int_cmp k q ≡ Less) (keys_of es) → T (below_all int_cmp k es)
 below k [] h = tt
@@ -118,7 +118,7 @@ sorted [] h = tt
 sorted (e ∷ es) h = both (below_all int_cmp e.0 es) (is_sorted int_cmp es) (below e.0 es h.0)
     (sorted es h.1)
 
--- Entries whose keys ascend are the entries of the map that they make.
+-- Entries with ascending keys are the entries of the map that they make.
 pub entries_seen : {X : Type 0} (es : List (ℤ × X)) (seen : FinMap int_cmp X)
     → from_entries es ≡ seen → IsStrictlySortedBy int_cmp (keys_of es) → es ≡ entries seen
 entries_seen {X} es seen e h =

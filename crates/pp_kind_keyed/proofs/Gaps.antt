@@ -9,7 +9,7 @@ use Rattle.pp_kind_keyed.proofs.Acting.{left_here, left_elsewhere}
 
 module _ {State Op Undo Cell : Type 0} (o : Object (Unit {0}) State Op Undo)
     (k : Keys State Op Cell) (acts : IsKeyed o k) where
-  -- what such states have at the key, and at the others
+  -- The cells of two states that differ at a key: there, and at the other keys.
   there : (s t : State) (q p : ℤ) (c : Cell) → DiffersAt k q c s t → p ≡ q → k.cell t p ≡ c
   there s t q p c d e = d p ∙ ap (λ (b : Bool). cond b c (k.cell s p)) (key_is p q e)
 
@@ -37,7 +37,7 @@ module _ {State Op Undo Cell : Type 0} (o : Object (Unit {0}) State Op Undo)
       → DiffersAt k q c s t → DiffersAt k q c s u → t ≡ u
   one_apart s t u q c it iu d e = acts.one_state t u it iu (λ p. d p ∙ sym (e p))
 
-  -- none differs where the key has that already
+  -- States that differ at most at a key, and have the same cell there, are equal.
   pub none_apart : (s t : State) (q : ℤ) (c : Cell) → o.upkeep.IsState s → o.upkeep.IsState t
       → k.cell s q ≡ c → DiffersAt k q c s t → t ≡ s
   none_apart s t q c is it e d =
@@ -73,7 +73,7 @@ module _ {State Op Undo Cell : Type 0} (o : Object (Unit {0}) State Op Undo)
           ∙ ap (λ (x : Cell). cond (int_eq p (k.key b)) (k.left b x) x) (elsewhere s t q p c d f)
           ∙ sym (acts.next_cell s b p h)
 
-  -- an operation on the key, which finds there what it asks for
+  -- An operation at the key is legal in the other state, if that has there the cell that it finds.
   legal_there : (q : ℤ) (c : Cell) (b : Op) (s t : State) → k.key b ≡ q → k.Finds b c
       → DiffersAt k q c s t → IsLegal o t b
   legal_there q c b s t e f d =

@@ -19,7 +19,7 @@ all_three true true false e f g h = cc
 all_three true false r e f g h = cc
 all_three false q r e f g h = cc
 
--- Keys that are told apart.
+-- Keys that a test finds equal are equal.
 pub same_key : (x y : ℤ) → int_eq x y ≡ true → x ≡ y
 same_key x y e = grind (arith, ints)
 

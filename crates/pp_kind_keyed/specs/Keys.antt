@@ -5,27 +5,28 @@ use Rattle.std.specs.Ordering.{int_eq}
 use Rattle.pp_kind.specs.Numbers.{has_ranged_arguments, is_ranged_answer}
 use Rattle.pp_kind.specs.Object.{Object, IsLegal, AllowedFrom, IsAllowed, state_after, AllRanged}
 
--- What a state keeps at its keys, and how an operation acts on the one key that it has.
+-- The cells that a state keeps at its keys, and how an operation acts on the one key that it has.
 pub record Keys (State Op Cell : Type 0) : Type 1 where
-  -- what is at a key
+  -- the cell at a key
   pub cell : State → ℤ → Cell
   -- the key of an operation
   pub key : Op → ℤ
   -- whether this may be there before it, by its recorded result
   pub Finds : Op → Cell → Type 0
-  -- what is there after it, by what was there
+  -- the cell there after it, by the cell before
   pub left : Op → Cell → Cell
   -- the operation that finds this at a key, and leaves it
   pub read : ℤ → Cell → Op
 
 module _ {State Op Cell : Type 0} (k : Keys State Op Cell) where
-  -- If a and then b find what they ask of this cell, so do b and then a, and leave the same.
+  -- If a and then b find what they require of this cell, so do b and then a, and both orders leave
+  -- the same.
   abbrev pub TurnsAt : Op → Op → Cell → Type 0
   TurnsAt a b c =
       k.Finds a c → k.Finds b (k.left a c)
       → k.Finds b c × k.Finds a (k.left b c) × (k.left a (k.left b c) ≡ k.left b (k.left a c))
 
-  -- Operations on different keys always swap, and those on one key where this lets them.
+  -- Operations on different keys always swap. Those on one key swap if this test allows it.
   abbrev pub may_swap : (Op → Op → Bool) → Op → Op → Bool
   may_swap lets a b = if int_eq (k.key a) (k.key b) then lets a b else true
 
@@ -36,14 +37,14 @@ pub record ToldKeys (State Op Cell : Type 0) : Type 0 where
   -- whether two cells are one
   pub alike : Cell → Cell → Bool
   pub key : Op → ℤ
-  -- what is there before it
+  -- the cell there before it
   pub found : Op → Cell
-  -- what is there after it
+  -- the cell there after it
   pub left : Op → Cell
   pub read : ℤ → Cell → Op
 
--- The rule for one key, by what each of a pair finds and leaves: it swaps where the second never
--- finds what the first leaves, or where all four are one.
+-- The rule for one key, by what each of a pair finds and leaves: it swaps if the second never finds
+-- what the first leaves, or if all four are one.
 abbrev pub rule : {Cell : Type 0} → (Cell → Cell → Bool)
     → (found : Cell) (left : Cell) (then_found : Cell) (then_left : Cell) → Bool
 rule alike found left then_found then_left =
@@ -60,7 +61,7 @@ module _ {State Op Cell : Type 0} (k : ToldKeys State Op Cell) where
     read = k.read;
   }
 
-  -- whether the rule lets two operations on one key swap
+  -- whether the rule allows two operations on one key to swap
   abbrev pub rule_lets : Op → Op → Bool
   rule_lets a b = rule k.alike (k.found a) (k.left a) (k.found b) (k.left b)
 
@@ -94,7 +95,7 @@ module _ {State Op Undo Cell : Type 0} (o : Object (Unit {0}) State Op Undo)
         → o.upkeep.IsState (o.next s a)
     pub back_is_state : (s : State) (a : Op) → o.upkeep.IsState s → IsLegal o s a
         → o.upkeep.IsState (undone o s a)
-    -- operations of one call are given one answer
+    -- operations of one call have one result in one state
     pub one_given : (s : State) (a b : Op) → o.call a ≡ o.call b → o.gives s a ≡ o.gives s b
     -- an operation is ranged exactly if its arguments and its recorded result are
     pub ranged_numbers : (a : Op)

@@ -1,4 +1,4 @@
-//! What memories, sets and maps share: objects that keep something at each key.
+//! The common part of memories, sets and maps: objects that keep something at each key.
 //!
 //! Such a kind says by the record `Keys` what is at a key, and what each of its operations finds
 //! and leaves there. `IsKeyed` and `IsShown` are the facts that it proves of itself, and

@@ -1,4 +1,4 @@
--- Proof machinery: the gaps of a map, of which each call answers the right one.
+-- Proof machinery: the gaps of a map, and that each call returns the right one.
 use Rattle.std.proofs.Common.{◌≡◌, ℤ, int_eq, Bool, true, false, if◌then◌else◌, refl, sym, ◌∙◌}
 use Rattle.std.proofs.Common.{subst, Option}
 use Rattle.std.specs.Ordering.{int_cmp}
@@ -19,7 +19,7 @@ use Rattle.pp_kind_map.specs.Gaps.{Bears, Differ, gap_left, gap_behind}
 use Rattle.pp_kind_map.specs.laws.Rule.{alike_is}
 use Rattle.pp_kind_map.specs.laws.Acting.{map_is_keyed, get-with_value}
 
--- What an operation finds at its key.
+-- A legal operation finds the value at its key.
 found : (s : FinMap int_cmp ℤ) (a : MapOp) → IsLegal key_map s a
     → map_keys.cell s (key_of a) ≡ found_by a
 found s a h = (map_is_keyed.legal s a).0 h

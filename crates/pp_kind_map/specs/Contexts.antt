@@ -5,7 +5,7 @@ use Rattle.pp_kind_map.specs.declared.op.MapOp.TheVariants.{Put}
 use Rattle.pp_kind_map.specs.Operations.{key_of, found_by}
 use Rattle.pp_kind_map.specs.Movers.{may_swap}
 
--- a value is put at a key where there was none
+-- a value is put at a key that had none
 abbrev pub put_first : ℤ → Option ℤ → List MapOp
 put_first key None = []
 put_first key (Some x) = Put key x None ∷ []
@@ -14,10 +14,10 @@ put_first key (Some x) = Put key x None ∷ []
 abbrev pub before_pair : MapOp → List MapOp
 before_pair a = put_first (key_of a) (found_by a)
 
--- what is before and after it
+-- the operations before and after it
 abbrev pub lists_round : MapOp → MapOp → List MapOp × List MapOp
 lists_round a b = (before_pair a, [])
 
--- where it does not swap
+-- the refuting lists of a pair, if it does not swap
 abbrev pub refuting_lists : MapOp → MapOp → Option (List MapOp × List MapOp)
 refuting_lists a b = if may_swap a b then None else Some (lists_round a b)

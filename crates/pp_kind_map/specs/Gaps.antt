@@ -14,7 +14,7 @@ use Rattle.pp_kind_map.specs.declared.gap.MapGap.{MapGap}
 use Rattle.pp_kind_map.specs.Operations.{key_of, found_by, left_by}
 use Rattle.pp_kind_map.specs.KeyMap.{map_keys}
 
--- Nothing is asked of the map itself.
+-- There is no condition on the state itself.
 abbrev pub Bears : MapGap → FinMap int_cmp ℤ → Type 0
 Bears g s = Unit {0}
 
@@ -24,7 +24,7 @@ Differ g s t = DiffersAt (told_keys map_keys) g.key g.value s t
 
 -- From here on proof machinery: what the calls return.
 
--- The gap that an operation leaves: what it found, where it leaves something else.
+-- The gap that an operation leaves: what it found, if it leaves something else.
 abbrev pub gap_left : MapOp → Left MapGap
 gap_left a =
     if option_eq int_eq (found_by a) (left_by a) then left.Same

@@ -26,7 +26,7 @@ abbrev pub figure_of : Option ℤ → ℤ
 figure_of None = pos 0
 figure_of (Some x) = x
 
--- what it finds and what it leaves
+-- its figures: what it finds and what it leaves
 abbrev pub figures_of : MapOp → Figures
 figures_of op = record {
   from = figure_of (found_by op);
@@ -51,7 +51,7 @@ map_table =
     ∷ (Never ∷ Always ∷ Never ∷ Always ∷ Never ∷ Always ∷ [])
     ∷ []
 
--- whether the table lets two operations on one key swap
+-- whether the table allows two operations at one key to swap
 abbrev pub table_lets : MapOp → MapOp → Bool
 table_lets a b = condition_holds (entry map_table (form_of a) (form_of b)) (figures_of a)
     (figures_of b)

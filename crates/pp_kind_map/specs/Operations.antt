@@ -18,13 +18,13 @@ key_of (Put key value was) = key
 key_of (Get key found) = key
 key_of (Remove key was) = key
 
--- what was at its key before it, by its recorded result
+-- the value at its key before it, by its recorded result
 abbrev pub found_by : MapOp → Option ℤ
 found_by (Put key value was) = was
 found_by (Get key found) = found
 found_by (Remove key was) = was
 
--- what is there after it
+-- the cell there after it
 abbrev pub left_by : MapOp → Option ℤ
 left_by (Put key value was) = Some value
 left_by (Get key found) = found
@@ -43,7 +43,7 @@ call_of (Remove key was) =
 abbrev pub recorded_by : MapOp → Answer
 recorded_by op = answer_of (found_by op)
 
--- what a map of these values returns
+-- the result of a map of these values
 abbrev pub given_by : FinMap int_cmp ℤ → MapOp → Answer
 given_by values op = answer_of (map.get values (key_of op))
 

@@ -16,7 +16,7 @@ pub struct MapGap {
     pub value: Option<i64>,
 }
 
-/// The gap that an operation leaves: what it found, where it leaves something else.
+/// The gap that an operation leaves: what it found, if it leaves something else.
 #[inline(always)]
 fn gap_left(op: &MapOp) -> Left<MapGap>
     ensures { result ≡ gap_left op.now }

@@ -111,7 +111,7 @@ pub fn may_swap(a: &MapOp, b: &MapOp) -> bool
     }
 }
 
-/// Which operations of a form are known to swap with this one after them, by their numbers.
+/// The operations of a form that are known to swap with this one after them, by their numbers.
 #[inline(always)]
 pub fn gate(first: usize, op: &MapOp) -> Gate
     ensures { IsGateBefore form_of number_of (Swaps key_map) first op.now result }

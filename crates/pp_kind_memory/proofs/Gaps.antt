@@ -1,4 +1,4 @@
--- Proof machinery: the gaps of a memory, of which each call answers the right one.
+-- Proof machinery: the gaps of a memory, and that each call returns the right one.
 use Rattle.std.proofs.Common.{◌≡◌, ℤ, int_eq, Bool, true, false, not, if◌then◌else◌, refl, sym, ◌∙◌}
 use Rattle.std.proofs.Common.{ap, subst}
 use Rattle.std.specs.Ordering.{int_cmp}
@@ -34,7 +34,7 @@ leaves (Cas a e n true) u = λ s is h k bears.
 leaves (Cas a e n false) u = λ s is h k.
     left_same memory addresses memory_keyed s (Cas a e n false) is refl h
 
--- After an operation at its address, by whether the number is the one that is asked for.
+-- After an operation at its address, by whether the number is the required one.
 abbrev CrossesThere : ℤ → MemOp → Type 0
 CrossesThere c b =
     Crosses memory Bears Differ (record { at = address_of b; number = c }) b (gap_there c b)

@@ -1,5 +1,5 @@
--- Proof machinery: what an operation keeps does not depend on those at other addresses, nor on those
--- that it swaps with at its own, but that of two writes either keeps what it covers.
+-- Proof machinery: the undo value of an operation does not depend on operations at other addresses, nor on those at its own that it swaps
+-- with. The exception are two writes, each of which keeps what it covers.
 use Rattle.std.proofs.Common.{◌≡◌, ◌≢◌, ℤ, pos, ◌-ℤ◌, int_eq, Bool, true, false, not, ◌&&◌, IsTrue}
 use Rattle.std.proofs.Common.{refl, sym, ◌∙◌, ap, arith}
 use Rattle.std.proofs.lemmas.Int.{ints}
@@ -73,7 +73,7 @@ one_address_alike (Cas a c n false) (Write b w) e t k m is h g l =
     (ap (Covered b) (sym (left_here memory addresses memory_keyed m (Cas a c n false) b (sym e) h)), refl)
 one_address_alike (Cas a c n done) (Cas b d i other) e t k m is h g l = (refl, refl)
 
--- whether the table is asked
+-- The table decides for two operations at one address.
 asked_there : (a b : MemOp) → int_eq (address_of a) (address_of b) ≡ true → may_swap a b ≡ true
     → may_swap_there a b ≡ true
 asked_there a b e h = cc
@@ -114,7 +114,7 @@ kept_in_turn : (a b : MemOp) → address_of a ≡ address_of b → IsTrue (is_wr
     → IsTrue (is_write b) → Swaps memory a b → KeptAs memory true a b
 kept_in_turn a b e s t h = writes_turn a b e s t (swap_there a b e h)
 
--- What is kept of an operation tells whether it writes, and where.
+-- The undo value of an operation shows whether it writes, and where.
 wrote_there : (b : MemOp) (at n : ℤ) → MayKeep memory b (Covered at n)
     → IsTrue (is_write b) × (address_of b ≡ at)
 wrote_there (Write b w) at n k = (refl, let e = k.2 in cc)
@@ -162,7 +162,7 @@ pub kept_nothing : (a b : MemOp) → MayKeep memory b Nothing → Swaps memory a
     → KeptAs memory false a b
 kept_nothing a b k = kept_alone a b (λ f. and_false (is_write a) (is_write b) (wrote_nothing b k))
 
--- where the first does not write
+-- The undo values of a pair whose first operation does not write.
 pub kept_unwritten : (a b : MemOp) (v : Bool) → v ≡ is_write a → IsTrue (not v) → Swaps memory a b
     → KeptAs memory false a b
 kept_unwritten a b true e t h = cc

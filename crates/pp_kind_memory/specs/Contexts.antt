@@ -56,6 +56,6 @@ abbrev pub lists_round : MemOp → MemOp → List MemOp × List MemOp
 lists_round a b =
     (write_of (address_of a) (number_before a b), read_of (address_of a) (number_after a b))
 
--- where it does not swap
+-- the refuting lists of a pair, if it does not swap
 abbrev pub refuting_lists : MemOp → MemOp → Option (List MemOp × List MemOp)
 refuting_lists a b = if may_swap a b then None else Some (lists_round a b)

@@ -15,7 +15,7 @@ use Rattle.pp_kind_memory.specs.declared.gap.MemGap.{MemGap}
 use Rattle.pp_kind_memory.specs.Operations.{address_of, number_of}
 use Rattle.pp_kind_memory.specs.Memories.{addresses}
 
--- Nothing is asked of the memory itself.
+-- There is no condition on the state itself.
 abbrev pub Bears : MemGap → FinMap int_cmp ℤ → Type 0
 Bears g s = Unit {0}
 
@@ -32,7 +32,7 @@ gap_left (Write a v) u = left.Apart (record { at = a; number = number_of u })
 gap_left (Cas a e n true) u = left.Apart (record { at = a; number = e })
 gap_left (Cas a e n false) u = left.Same
 
--- A gap where the operation finds what it asks for, and else it is not known.
+-- A gap if the operation finds what it requires; otherwise it is not known.
 abbrev pub where_found : Bool → ℤ → ℤ → Crossed MemGap Undo
 where_found finds a c =
     if finds then crossed.Apart (record { at = a; number = c }) else crossed.Unknown

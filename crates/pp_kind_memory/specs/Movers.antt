@@ -34,7 +34,7 @@ number_of (Write a v) = v
 number_of (Cas a e n true) = e
 number_of (Cas a e n false) = e
 
--- the form that its gates know: its row, and another where it leaves the number that it finds
+-- the form in its gates: its row, or another one if it leaves the number that it finds
 abbrev pub gate_form_of : MemOp → ℕ
 gate_form_of (Read a v) = 4
 gate_form_of (Write a v) = 1
@@ -50,7 +50,7 @@ memory_table =
     ∷ (Always ∷ Apart ∷ IntoApart ∷ Always ∷ [])
     ∷ []
 
--- whether the table lets two operations on one address swap
+-- whether the table allows two operations at one key to swap
 abbrev pub may_swap_there : MemOp → MemOp → Bool
 may_swap_there a b = condition_holds (entry memory_table (form_of a) (form_of b)) (figures_of a)
     (figures_of b)

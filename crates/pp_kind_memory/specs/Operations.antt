@@ -61,7 +61,7 @@ recorded_by (Read a v) = Number v
 recorded_by (Write a v) = NoAnswer
 recorded_by (Cas a e n done) = Truth done
 
--- what a memory returns: of a compare-and-swap, whether the number is the expected one
+-- the result of a memory: for a compare-and-swap, whether the number is the expected one
 abbrev pub given_by : FinMap int_cmp ℤ → MemOp → Answer
 given_by m (Read a v) = Number (value_at m a)
 given_by m (Write a v) = NoAnswer
@@ -73,7 +73,8 @@ memory_after m (Read a v) = m
 memory_after m (Write a v) = written m a v
 memory_after m (Cas a e n done) = if int_eq (value_at m a) e then written m a n else m
 
--- the number that a write covers, with its address; a compare-and-swap tells itself what it covered
+-- the number that a write covers, with its address; the result of a compare-and-swap shows what it
+-- covered
 abbrev pub kept_by : FinMap int_cmp ℤ → MemOp → Undo
 kept_by m (Read a v) = Nothing
 kept_by m (Write a v) = Covered a (value_at m a)

@@ -1,4 +1,4 @@
-//! The operations that show of a pair that it does not swap.
+//! The operations that show that a pair does not swap.
 ghost use Rattle.std.specs.Prelude.{◌≡◌, IfOk};
 ghost use Rattle.pp_kind_memory.specs.Contexts.{number_after, number_before, other_than, read_of, write_of};
 ghost use Rattle.pp_kind_memory.specs.Contexts.{lists_round};

@@ -41,7 +41,7 @@ fn gap_left(op: &MemOp, undo: &Undo) -> Left<MemGap>
     }
 }
 
-/// A gap where the operation finds what it asks for, and else it is not known.
+/// A gap if the operation finds what it requires; otherwise it is not known.
 #[inline(always)]
 fn where_found(finds: bool, at: i64, number: i64) -> Crossed<MemGap, Undo>
     ensures { result ≡ where_found finds at number }

@@ -61,7 +61,7 @@ fn figures(op: &MemOp) -> Figures
     }
 }
 
-/// The form that its gates know: its row, and another where it leaves the number that it finds.
+/// The form in its gates: its row, or another one if it leaves the number that it finds.
 #[inline(always)]
 pub fn gate_form(op: &MemOp) -> usize
     ensures { result ≡ gate_form_of op.now }
@@ -116,7 +116,7 @@ pub fn may_swap(a: &MemOp, b: &MemOp) -> bool
     }
 }
 
-/// Which operations of a form are known to swap with this one after them, by their numbers.
+/// The operations of a form that are known to swap with this one after them, by their numbers.
 #[inline(always)]
 pub fn gate(first: usize, op: &MemOp) -> Gate
     ensures { IsGateBefore gate_form_of number_of (Swaps memory) first op.now result }

@@ -1,8 +1,8 @@
-//! What a memory keeps to take an operation back.
+//! The undo values of a memory.
 ghost use Rattle.std.specs.Prelude.{◌≡◌};
 ghost use Rattle.pp_kind_memory.specs.Operations.{number_of};
 
-/// What takes an operation back, beside the operation.
+/// The undo value of an operation.
 #[derive(Drop)]
 pub enum Undo {
     /// The number that a write covered, at its address.

@@ -199,7 +199,7 @@ unfolding IsStrictlySortedBy
 fewer v [] n s h = cc
 fewer v (e ∷ es) n s h = fewer_by v e es n (int_cmp v e.0) refl s h h (fewer v es n s.1)
 
--- The same of the list as it is seen, at a value as it is stored.
+-- The same for the list as it is seen, with a value as it is stored.
 pub added_seen : (es fs : List (ℤ × ℕ)) (seen : List ℤ) (v j : ℤ) (f : Option ℕ) (n : ℕ)
     → spread es ≡ seen → j ≡ v → IsStrictlySortedBy int_cmp (keys_of es)
     → lookup (is_at (int_cmp j)) es ≡ f → n ≡ one_more f → fs ≡ insert_entry int_cmp es j n

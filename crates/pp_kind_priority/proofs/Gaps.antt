@@ -116,7 +116,7 @@ least_again v [] is e h = cc
 least_again v (x ∷ values) is e h = let f : x ≡ v = cc in
     again v values (subst (λ (y : ℤ). IsAscending (y ∷ values)) f is) h
 
--- The least goes back to where it was.
+-- Putting the least value back restores the list.
 put_back : (v : ℤ) (values : List ℤ) → IsAscending values → least_of values ≡ Some v
     → values ≡ with_one v (without_least values)
 put_back v [] is e = cc
@@ -266,7 +266,7 @@ seen_below v w low = λ s is h bears. (
       },
 )
 
--- The same of an operation as it is seen.
+-- The same for an equal operation.
 pub led_by : (g h : PrioGap) (a b : PrioOp) → a ≡ b → LeadsTo g b h → LeadsTo g a h
 led_by g h a b e k = subst (λ (op : PrioOp). LeadsTo g op h) (sym e) k
 
@@ -284,7 +284,7 @@ stored_below v w fits also h =
     let f = to_z-of_z w64 v fits in
     grind (arith, ints)
 
--- One copy more is wanted, where the number of them has room.
+-- One more copy is required, if the number of copies has room.
 pub put_counted : (v : ℤ) (n : ℕ) (op : PrioOp) (Fits : Type 0) (r : Option ℕ) → op ≡ Insert v
     → SomeIff r Fits (n + 1)
     → IfSome r (λ (m : ℕ). LeadsTo (gap.Insert v n) op (gap.Insert v m))

@@ -5,7 +5,7 @@ use Rattle.pp_kind_priority.specs.declared.op.PrioOp.TheVariants.{Insert, Take, 
 use Rattle.pp_kind_priority.specs.Operations.{found_by}
 use Rattle.pp_kind_priority.specs.Movers.{may_swap}
 
--- what was found is inserted, if anything was
+-- the value that was found is inserted, if there was one
 abbrev pub insertion_of : Option ℤ → List PrioOp
 insertion_of None = []
 insertion_of (Some x) = Insert x ∷ []
@@ -21,6 +21,6 @@ before_pair (Least value) b = insertion_of value
 abbrev pub lists_round : PrioOp → PrioOp → List PrioOp × List PrioOp
 lists_round a b = (before_pair a b, [])
 
--- where it does not swap
+-- the refuting lists of a pair, if it does not swap
 abbrev pub refuting_lists : PrioOp → PrioOp → Option (List PrioOp × List PrioOp)
 refuting_lists a b = if may_swap a b then None else Some (lists_round a b)

@@ -32,7 +32,7 @@ recorded_by (Insert value) = NoAnswer
 recorded_by (Take value) = answer_of value
 recorded_by (Least value) = answer_of value
 
--- what a priority queue of these values returns
+-- the result of a priority queue of these values
 abbrev pub given_by : List ℤ → PrioOp → Answer
 given_by values (Insert value) = NoAnswer
 given_by values (Take value) = answer_of (least_of values)

@@ -1,4 +1,4 @@
-//! The operations that show of a pair that it does not swap.
+//! The operations that show that a pair does not swap.
 ghost use Rattle.std.specs.Prelude.{◌≡◌, ◌++◌, IfOk, OnOk};
 ghost use Rattle.pp_kind_priority.specs.Contexts.{insertion_of, before_pair};
 

@@ -53,7 +53,7 @@ fn wanted_behind(value: i64, copies: u64, op: &PrioOp) -> Option<u64>
     }
 }
 
-/// Whether an operation is known to be legal with a value more, which was taken: what it finds is
+/// Whether an operation is known to be legal with one more value, which was taken: what it finds is
 /// not greater.
 #[inline(always)]
 fn is_legal_with(value: i64, op: &PrioOp) -> bool

@@ -44,7 +44,7 @@ crosses_deq v w r n m h k = λ s is legal bears. (
       differ.2 differ.3),
 )
 
--- What is said of an item and an operation is said of any that equal them.
+-- A fact about an item and an operation is true for equal ones.
 pub carried : (v u : ℤ) (r n : ℕ) (b c : QueueOp) (after : Crossed QueueGap (Unit {0})) → v ≡ u
     → b ≡ c → Crosses fifo Bears Differ (gap.Enq v r n) b after
     → Crosses fifo Bears Differ (gap.Enq u r n) c after

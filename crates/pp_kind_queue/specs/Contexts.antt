@@ -21,10 +21,10 @@ after_pair (Enq x) (Deq value) = []
 after_pair (Deq found) (Enq value) = []
 after_pair (Deq found) (Deq other) = []
 
--- what is before and after such a pair
+-- the operations before and after such a pair
 abbrev pub lists_round : QueueOp → QueueOp → List QueueOp × List QueueOp
 lists_round a b = (before_pair a b, after_pair a b)
 
--- where it does not swap
+-- the refuting lists of a pair, if it does not swap
 abbrev pub refuting_lists : QueueOp → QueueOp → Option (List QueueOp × List QueueOp)
 refuting_lists a b = if may_swap a b then None else Some (lists_round a b)

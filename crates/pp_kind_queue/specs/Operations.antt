@@ -36,7 +36,7 @@ abbrev pub recorded_by : QueueOp → Answer
 recorded_by (Enq value) = NoAnswer
 recorded_by (Deq value) = answer_of value
 
--- what a queue of these items returns
+-- the result of a queue of these items
 abbrev pub given_by : List ℤ → QueueOp → Answer
 given_by items (Enq value) = NoAnswer
 given_by items (Deq value) = answer_of (front_of items)

@@ -1,4 +1,4 @@
-//! The operations that show of a pair that it does not swap.
+//! The operations that show that a pair does not swap.
 ghost use Rattle.std.specs.Prelude.{◌≡◌, IfOk};
 ghost use Rattle.pp_kind_queue.specs.Contexts.{before_pair, after_pair};
 

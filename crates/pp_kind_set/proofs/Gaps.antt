@@ -1,4 +1,4 @@
--- Proof machinery: the gaps of a set, of which each call answers the right one.
+-- Proof machinery: the gaps of a set, and that each call returns the right one.
 use Rattle.std.proofs.Common.{◌≡◌, ℤ, int_eq, Bool, true, false, if◌then◌else◌, refl, sym, ◌∙◌}
 use Rattle.std.proofs.Common.{subst}
 use Rattle.std.specs.Ordering.{int_cmp}
@@ -19,7 +19,7 @@ use Rattle.pp_kind_set.specs.Gaps.{Bears, Differ, gap_left, gap_behind}
 use Rattle.pp_kind_set.specs.laws.Bits.{one_bit, inserted_at, removed_at}
 use Rattle.pp_kind_set.specs.laws.Acting.{set_keyed}
 
--- What an operation finds at its key.
+-- A legal operation finds the value at its key.
 found : (s : FinSet int_cmp) (a : SetOp) → IsLegal key_set s a
     → bits.cell s (key_of a) ≡ bit_before a
 found s a h = (set_keyed.legal s a).0 h

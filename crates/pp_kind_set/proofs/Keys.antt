@@ -66,12 +66,12 @@ pub removed_seen : (ks ls : List ℤ) (seen : FinSet int_cmp) (k j : ℤ) → se
 removed_seen ks ls seen k j e f h =
     entries.removed_seen (marked ks) (marked ls) seen k j e f (marked_at ks ls j false h)
 
--- Keys that ascend are those of their set.
+-- Ascending keys are the members of the set that they make.
 keys_marked : (ks : List ℤ) → keys_of (marked ks) ≡ ks
 keys_marked [] = refl
 keys_marked (k ∷ ks) = ap (λ (l : List ℤ). k ∷ l) (keys_marked ks)
 
--- Keys that ascend are the members of the set that they make.
+-- Ascending keys are the members of the set that they make.
 pub members_seen : (ks : List ℤ) (seen : FinSet int_cmp) → set_of ks ≡ seen
     → IsStrictlySortedBy int_cmp ks → ks ≡ members seen
 members_seen ks seen e h =

@@ -11,10 +11,10 @@ abbrev pub reach : ℤ → Bool → List SetOp
 reach k true = Add k true ∷ []
 reach k false = []
 
--- what is before and after a pair on one key that does not swap
+-- the operations before and after a pair on one key that does not swap
 abbrev pub lists_round : SetOp → SetOp → List SetOp × List SetOp
 lists_round a b = (reach (key_of a) (bit_before a), [])
 
--- where it does not swap
+-- the refuting lists of a pair, if it does not swap
 abbrev pub refuting_lists : SetOp → SetOp → Option (List SetOp × List SetOp)
 refuting_lists a b = if may_swap a b then None else Some (lists_round a b)

@@ -13,7 +13,7 @@ use Rattle.pp_kind_set.specs.declared.gap.SetGap.{SetGap}
 use Rattle.pp_kind_set.specs.Operations.{key_of, bit_before, bit_after}
 use Rattle.pp_kind_set.specs.Sets.{bits, same_bit}
 
--- Nothing is asked of the set itself.
+-- There is no condition on the state itself.
 abbrev pub Bears : SetGap → FinSet int_cmp → Type 0
 Bears g s = Unit {0}
 
@@ -23,7 +23,7 @@ Differ g s t = DiffersAt (told_keys bits) g.key g.present s t
 
 -- From here on proof machinery: what the calls return.
 
--- The gap that an operation leaves: what it found, where it leaves something else.
+-- The gap that an operation leaves: what it found, if it leaves something else.
 abbrev pub gap_left : SetOp → Left SetGap
 gap_left a =
     if same_bit (bit_before a) (bit_after a) then left.Same

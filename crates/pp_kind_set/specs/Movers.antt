@@ -37,7 +37,7 @@ set_table =
     ∷ (Never ∷ Always ∷ Always ∷ Always ∷ Always ∷ Always ∷ [])
     ∷ []
 
--- whether the table lets two operations on one key swap
+-- whether the table allows two operations at one key to swap
 abbrev pub may_swap_there : SetOp → SetOp → Bool
 may_swap_there a b = condition_holds (entry set_table (form_of a) (form_of b)) no_figures no_figures
 

@@ -44,7 +44,7 @@ recorded_by (Add k changed) = Truth changed
 recorded_by (Remove k changed) = Truth changed
 recorded_by (Contains k present) = Truth present
 
--- what a set returns: whether it changes, or whether the key is in
+-- the result of a set: whether it changes, or whether the key is in
 abbrev pub given_by : FinSet int_cmp → SetOp → Answer
 given_by s (Add k changed) = Truth (not (contains s k))
 given_by s (Remove k changed) = Truth (contains s k)

@@ -16,7 +16,7 @@ pub struct SetGap {
     pub present: bool,
 }
 
-/// The gap that an operation leaves: what it found, where it leaves something else.
+/// The gap that an operation leaves: what it found, if it leaves something else.
 #[inline(always)]
 fn gap_left(op: &SetOp) -> Left<SetGap>
     ensures { result ≡ gap_left op.now }

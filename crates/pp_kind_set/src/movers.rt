@@ -59,8 +59,7 @@ pub fn may_swap(a: &SetOp, b: &SetOp) -> bool
     }
 }
 
-/// Which operations of a form are known to swap with this one after them: all or none, since no
-/// number matters.
+/// The operations of a form that are known to swap with this one after them, by their numbers.
 #[inline(always)]
 pub fn gate(first: usize, op: &SetOp) -> Gate
     ensures { IsGateBefore form_of number_of (Swaps key_set) first op.now result }

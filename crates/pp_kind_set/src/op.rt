@@ -13,7 +13,7 @@ pub enum SetOp {
     Add { key: i64, changed: bool },
     /// Takes a key out, which changes the set if it was in.
     Remove { key: i64, changed: bool },
-    /// Asks whether a key is in.
+    /// Reads whether a key is in.
     Contains { key: i64, present: bool },
 }
 

@@ -11,7 +11,7 @@ use pp_kind::{Applied, Context, Spec};
 use std::alloc::Global;
 use std::sync::ledger::Ledger;
 
-/// Sets of keys. The recorded result tells all that is needed to take an operation back.
+/// Sets of keys. The recorded result is all that is needed to take an operation back.
 #[derive(Drop)]
 pub struct KeySet;
 

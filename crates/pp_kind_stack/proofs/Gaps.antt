@@ -106,7 +106,7 @@ pub none_leaves : (op : StackOp) (u : Unit {0}) → Pop None ≡ op
 none_leaves op u e = subst (λ (x : StackOp). Leaves stack Bears Differ x u left.Same) e
     (λ s is legal kept. let none = no_top s (told (Pop None) s legal) in cc)
 
--- What the first is to bear before an operation.
+-- The condition on the first stack before an operation, from the condition after it.
 bears_before : (v : ℤ) (d e : ℕ) (op : StackOp) (s : List ℤ) → IsAboveBehind v d op e
     → Tells op s → Bears (gap.Push v e) (stack.next s op) → Bears (gap.Push v d) s
 bears_before v d e (Push w) s h k b =

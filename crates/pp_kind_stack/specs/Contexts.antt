@@ -21,10 +21,10 @@ after_pair (Push x) (Pop value) = []
 after_pair (Pop found) (Push value) = []
 after_pair (Pop found) (Pop other) = []
 
--- what is before and after such a pair
+-- the operations before and after such a pair
 abbrev pub lists_round : StackOp → StackOp → List StackOp × List StackOp
 lists_round a b = (before_pair a b, after_pair a b)
 
--- where it does not swap
+-- the refuting lists of a pair, if it does not swap
 abbrev pub refuting_lists : StackOp → StackOp → Option (List StackOp × List StackOp)
 refuting_lists a b = if may_swap a b then None else Some (lists_round a b)

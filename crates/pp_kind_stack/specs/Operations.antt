@@ -31,7 +31,7 @@ abbrev pub recorded_by : StackOp → Answer
 recorded_by (Push value) = NoAnswer
 recorded_by (Pop value) = answer_of value
 
--- what a stack of these items returns
+-- the result of a stack of these items
 abbrev pub given_by : List ℤ → StackOp → Answer
 given_by items (Push value) = NoAnswer
 given_by items (Pop value) = answer_of (top_of items)

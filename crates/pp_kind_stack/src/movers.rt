@@ -65,7 +65,7 @@ pub fn may_swap(a: &StackOp, b: &StackOp) -> bool
     mover_table().holds(form(a), &figures(a), form(b), &figures(b))
 }
 
-/// Which operations of a form are known to swap with this one after them, by their numbers.
+/// The operations of a form that are known to swap with this one after them, by their numbers.
 #[inline(always)]
 pub fn gate(first: usize, op: &StackOp) -> Gate
     ensures { IsGateBefore form_of number_of (Swaps stack) first op.now result }

@@ -1,4 +1,4 @@
-//! Pairs of operations, and what is answered for them.
+//! Pairs of operations, and the expected results for them.
 use crate::calls::ELSEWHERE;
 use pp_kind::Spec;
 use pp_objects::{Objects, Op};
@@ -10,7 +10,7 @@ use std::test::Fail;
 pub struct Pair {
     pub first: Op,
     pub second: Op,
-    /// What is before and after them if they do not swap, or nothing if they do.
+    /// The operations before and after them if they do not swap, or nothing if they do.
     pub context: Option<(&'static [Op], &'static [Op])>,
 }
 

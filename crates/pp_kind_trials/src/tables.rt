@@ -417,7 +417,7 @@ pub const CELLS: [&[Pair]; 7] = [
     &PRIORITY_QUEUE,
 ];
 
-/// Calls whose answers were worked out by hand.
+/// Calls whose results were worked out by hand.
 pub const WORKED: [Pair; 10] = [
     stay!(reads!(0, 5), writes!(0, 6), [writes!(0, 5)], []),
     swap!(writes!(0, 5), reads!(0, 6)),

@@ -15,13 +15,13 @@ fn each_cell_of_each_table(rt: HostRuntime) -> Result<(), Fail> {
     Ok(())
 }
 
-/// Single calls have the answers that were worked out for them.
+/// Single calls have the results that were worked out for them.
 #[test]
 fn contexts_of_worked_calls(rt: HostRuntime) -> Result<(), Fail> {
     try_pairs(&rt, rt.alloc(), &WORKED)
 }
 
-/// With ample memory, no call answers that there is none.
+/// With enough memory, no call returns out of memory.
 #[test]
 fn effects_are_taken_back(rt: HostRuntime) -> Result<(), Fail> {
     for effect in &EFFECTS {

@@ -7,7 +7,7 @@ use Rattle.pp_log.specs.Parts.{there}
 use Rattle.pp_log.specs.Runs.{kept_along}
 use Rattle.pp_log.proofs.Parted.{is_at, there_at, there_off, there_twice}
 
--- What happens at a place depends on the items of this place alone.
+-- The effect of a list at a place depends on the items of this place alone.
 module _ {Shape State Op Undo : Type 0} (o : Object Shape State Op Undo) (place : Op → ℕ) (SameAt : ℕ → State → State → Type 0) (laws : IsLawful o) (places : IsPlaced o place SameAt) where
   -- States that are the same at a place stay so after an operation of this place.
   pub next_at : (p : ℕ) (s t : State) (a : Op) → place a ≡ p → SameAt p s t → SameAt p (o.next s a) (o.next t a)
@@ -40,7 +40,7 @@ module _ {Shape State Op Undo : Type 0} (o : Object Shape State Op Undo) (place 
         | inr k ↦ subst P (sym (there_off place p e x k)) (same_run p (o.next s e.op) t x (next_off p s t e.op k h))
       ]
 
-  -- they are allowed where the whole list is
+  -- The items of a place are allowed if the whole list is.
   pub allowed_there : (p : ℕ) (s t : State) (x : List (Item Op)) → SameAt p s t → o.shape s ≡ o.shape t → AllowedFrom o s (ops x) → AllowedFrom o t (ops (there place p x))
   allowed_there p s t [] h k l = tt
   allowed_there p s t (e ∷ x) h k l =
@@ -66,7 +66,7 @@ module _ {Shape State Op Undo : Type 0} (o : Object Shape State Op Undo) (place 
         | inr i ↦ subst P (sym (there_off place p e x i)) (kept_same p s t x h)
       ]
 
-  -- a list is allowed where the items of each place are
+  -- A list is allowed if the items of each place are.
   pub allowed_by_places : (s : State) (x : List (Item Op)) → ((p : ℕ) → AllowedFrom o s (ops (there place p x))) → AllowedFrom o s (ops x)
   allowed_by_places s [] h = tt
   allowed_by_places s (e ∷ x) h =

@@ -14,7 +14,7 @@ module _ {Shape State Op Undo E : Type 0} (o : Object Shape State Op Undo) (f : 
       let k = legal_at_end o s ops a (log.0, ops) (ap (λ (sh : Shape). (sh, ops)) shape) is fits in
       ((λ r. k.0 (h.0 r)), (λ r. h.1 (k.1 r)))
 
-  -- The result is the one that it gives in that state.
+  -- The object's result is the one in the state after the log.
   pub gives_behind : (r : Answer) → r ≡ o.gives s a → r ≡ answer_behind o log.0 (entry_ops f log.1) a
   gives_behind r h =
       h ∙ ap (λ (t : State). o.gives t a) is.is ∙ ap (λ (sh : Shape). o.gives (state_after o sh (entry_ops f log.1)) a) shape

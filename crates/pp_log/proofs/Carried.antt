@@ -1,4 +1,4 @@
--- What takes an operation back, carried after those of its place.
+-- Undo values of operations, carried after the operations of their place.
 use Rattle.std.proofs.Common.{◌≡◌, ℕ, zero, suc, ◌<◌, ◌≤◌, ◌+◌, ◌-◌, true, false, List, [], ◌∷◌, ◌++◌, length, get_or}
 use Rattle.std.proofs.Common.{refl, sym, ◌∙◌, ap, subst, arith, inl, inr, append_assoc, append-nil, length-append}
 use Rattle.std.specs.List.{remove, swap}
@@ -15,7 +15,7 @@ use Rattle.pp_log.proofs.Passed.{carried_alone, kept_alone, kept_in_turn, other_
 use Rattle.pp_log.proofs.Runs.{kept-push, length-kept}
 
 module _ {Shape State Op Undo : Type 0} (o : Object Shape State Op Undo) (laws : IsLawful o) (b : State) (base x z : List Op) (a c : Op) (swaps : Swaps o a c) (us : List Undo) (way : IsOnWay o b base x (c ∷ z) a us) where
-  -- The undo value of the other one is what it keeps in some state.
+  -- The undo value of the other operation is one that it keeps in some state.
   pub is_kept : (at : ℕ) (v : Undo) → length x ≡ at → v ≡ get_or us (at + 1) v → MayKeep o c v
   is_kept at v n is = subst (λ (w : Undo). MayKeep o c w) (sym is) (other_may_keep o laws b base way.log x z a c swaps way.allowed us v at n way.kept)
 
@@ -124,7 +124,7 @@ module _ {Shape State Op Undo : Type 0} (o : Object Shape State Op Undo) (place 
           (over b base (x ++ r.0) z r.1 many swaps one_place now);
     }
 
--- The undo value of an operation that exchanges it with none is taken out at its position.
+-- If an operation exchanges its undo value with none, it is taken out at its position.
 pub out_alone : {Shape State Op Undo : Type 0} (o : Object Shape State Op Undo) (laws : IsLawful o) (place : Op → ℕ) (a : Op) → ((c : Op) → Swaps o a c → KeptAs o false a c)
     → (from : ℕ) (us vs : List Undo) (v : Undo) → vs ≡ remove us from → v ≡ get_or us from v → CarriesOut o place a from us vs v
 out_alone o laws place a alone from us vs v rest is b base x z n h all way =

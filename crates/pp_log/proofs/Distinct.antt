@@ -66,7 +66,7 @@ distinct_remove (e ∷ x) (suc i) h = (new_remove e.id x i h.0, distinct_remove 
 pub one_id_less : {Op : Type 0} (x : List (Item Op)) (i : ℕ) → HasDistinctIds x → HasDistinctIds (remove x i)
 one_id_less x i h = told (remove x i) (distinct_remove x i (apart x h))
 
--- Where an id is.
+-- A new id is not that of an item in the list.
 pub new_not : {Op : Type 0} (id : ℕ) (v : List (Item Op)) (k : ℕ) (f : Item Op) → IsNew id v → slice_get v k ≡ Some f → id ≡ f.id → ⊥
 new_not id [] k f h e is = cc
 new_not id (g ∷ v) zero f h e is = let same : g ≡ f = cc in h.0 (is ∙ ap (λ (k : Item _). k.id) (sym same))

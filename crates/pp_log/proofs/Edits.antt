@@ -87,7 +87,7 @@ module _ {Shape State Op Undo : Type 0} (o : Object Shape State Op Undo) where
       let legal = (allowed-second o b (take n (ops x)) (e.op ∷ []) (subst (AllowedFrom o b) cut every)).0 in
       ap (λ (q : State). o.gives q e.op) r.is ∙ legal.1
 
-  -- the first item that differs, where a run stopped
+  -- If a run stopped at an item, that is the first item that differs.
   pub differs_there : (b s : State) (x : List (Item Op)) (us : List Undo) (e : Item Op) (id : ℕ) (answer : Answer) → IsRun o b x us s → length us < length x → e ≡ get_or x (length us) e → e.id ≡ id → o.gives s e.op ≡ answer → (answer ≡ o.recorded e.op → ⊥) → DiffersFrom o itself b x id answer
   differs_there b s x us e id answer r h is id_is gives differs =
       let n = length us in

@@ -1,4 +1,4 @@
--- The gap that an operation leaves, carried over others, and a place where it is closed.
+-- The gap that an operation leaves, carried over others, and the place at which it is closed.
 use Rattle.std.proofs.Common.{◌≡◌, ℕ, ◌<◌, ◌+◌, ◌-◌, List, [], ◌∷◌, ◌++◌, length, map, take, drop, get_or}
 use Rattle.std.proofs.Common.{refl, sym, ◌∙◌, ap, subst, arith, length-append}
 use Rattle.std.specs.List.{remove, slice_set}

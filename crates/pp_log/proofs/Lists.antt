@@ -132,7 +132,7 @@ map_set_same f [] i b h = refl
 map_set_same {A} {B} f (a ∷ x) zero b h = ap (λ (c : B). c ∷ map f x) (h a refl)
 map_set_same {A} {B} f (a ∷ x) (suc i) b h = ap (λ (z : List B). f a ∷ z) (map_set_same f x i b h)
 
--- a list cut where the list that it is mapped to is cut
+-- a list cut at the element at which the list that it is mapped to is cut
 pub record IsCut {A B : Type 0} (f : A → B) (x : List A) (before : List B) (b : B) : Type 0 where
   pub front : List A
   pub entry : A

@@ -1,4 +1,4 @@
--- What a log says of its entries, from what it knows of their items.
+-- Facts about the entries of a log, from facts about their items.
 use Rattle.std.proofs.Common.{◌≡◌, ℕ, ◌<◌, ◌+◌, ◌≤◌, Bool, not, cond, ◌==◌, List, [], ◌∷◌, ◌++◌}
 use Rattle.std.proofs.Common.{length, map, get_or, refl, sym, ◌∙◌, ap, subst, arith, inl, inr, None}
 use Rattle.std.specs.List.{remove, position, position_or_len}
@@ -34,7 +34,7 @@ pub record IsSeen {Shape Op E : Type 0} (f : E → Item Op) (past : Shape × Lis
 pub seen : {Shape Op E : Type 0} (f : E → Item Op) (sh : Shape) (x : List E) (log : Shape × List E) → ◌≡◌ {A = Shape × List E} (sh, x) log → IsSeen f (sh, map f x) log
 seen {Shape} {Op} {E} f sh x log is = record { shape = ap (λ (p : Shape × List E). p.0) is; items = ap (λ (p : Shape × List E). map f p.1) is }
 
--- What is said of a past with its operations may be said of the log.
+-- A fact about a past with its operations is a fact about the log.
 pub through : {Shape Op E : Type 0} {f : E → Item Op} {past : Shape × List (Item Op)} {log : Shape × List E} (P : Shape → List Op → Type 0) → IsSeen f past log → P past.0 (ops past.1) → P log.0 (entry_ops f log.1)
 through {Shape} {Op} {E} {f} {past} {log} P s h =
     subst (λ (z : List Op). P log.0 z) (ops_mapped f log.1) (subst (λ (z : List (Item Op)). P log.0 (ops z)) s.items (subst (λ (sh : Shape). P sh (ops past.1)) s.shape h))
@@ -94,7 +94,7 @@ differs_entry {Shape} {State} {Op} {Undo} {E} o f sh x id answer h =
       differs = λ is. h.differs (is ∙ ap (λ (e : Item Op). o.recorded e.op) r.entry_is);
     }
 
--- what is left of the entries has the items that are left
+-- The entries that a removal leaves have the items that it leaves.
 pub left_mapped : {A B : Type 0} (f : A → B) (removed : Removed) (x : List A) (i : ℕ) → map f (left removed x i) ≡ left removed (map f x) i
 left_mapped f Done x i = map-remove f x i
 left_mapped f (Differs id answer) x i = refl

@@ -116,7 +116,7 @@ module _ {Op : Type 0} (place : Op → ℕ) (p : ℕ) where
   pub stand_behind : (x : List (Item Op)) (k : ℕ) (e : Item Op) (m from : ℕ) → IsStand place p x k e m → from ≤ m → ahead place p x from ≤ k
   stand_behind x k e m from r h = let less = ahead_rises x from m h in let count = r.count in omega arith
 
--- What is found may be taken case by case.
+-- A fact about an option is a fact about its value, if it has one.
 pub if_some : {A : Type 0} (o : Option A) (P : A → Type 0) → ((a : A) → o ≡ Some a → P a) → IfSome o P
 if_some None P h = tt
 if_some (Some a) P h = h a refl
@@ -170,7 +170,7 @@ module _ {E Op : Type 0} (place : Op → ℕ) (f : E → Item Op) (p : ℕ) (x :
       let most = ahead_all place p (map f x) (suc j) in
       omega arith
 
--- What a log keeps of a place, once it was looked up.
+-- What a log keeps of a place, after it was looked up.
 module _ {Shape State Op Undo E : Type 0} (o : Object Shape State Op Undo) (place : Op → ℕ) (f : E → Item Op) (s : State) (x : List E) (log : Shape × List E) (ps lent : List (Place Undo)) (k p : ℕ) where
   -- The ids that a log keeps at a place are those of the items of the place.
   pub ids_are : (q : Place Undo) → ◌≡◌ {A = Shape × List E} (o.shape s, x) log → Keeps o place s (map f x) ps → lent ≡ ps → k ≡ p → k < length lent → q ≡ get_or lent k q → q.ids.items ≡ ids_of (there place p (map f log.1))

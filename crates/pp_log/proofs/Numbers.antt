@@ -159,7 +159,7 @@ no_position ids numbers id h k =
     let all = no_place ids numbers id h k in
     ap (λ (b : Bool). cond b (Some j) None) (le-ltb j (length ids) (omega arith))
 
--- what a search by halves for its number finds
+-- A search by halves for the number of an id finds its position.
 pub searched_position : (ids numbers : List ℕ) (next id n : ℕ) (r : Result ℕ ℕ) → length numbers ≡ length ids → IsRising (numbers ++ next ∷ []) → number_of ids numbers id ≡ Some n → MatchResult r (λ i. (i < length numbers) × (get_or numbers i 0 ≡ n)) (λ i. (i ≤ length numbers) × ((k : ℕ) → k < i → get_or numbers k 0 < n) × ((k : ℕ) → i ≤ k → k < length numbers → n < get_or numbers k 0)) → result_ok r ≡ position (nat_eq id) ids
 searched_position ids numbers next id n (Ok k) size h has m = sym (position_by_number ids numbers next id n k size h has m.0 m.1)
 searched_position ids numbers next id n (Err k) size h has m =

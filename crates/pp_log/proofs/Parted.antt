@@ -167,7 +167,7 @@ pub some_first : {E Op : Type 0} (place : Op → ℕ) (f : E → Item Op) (p : �
 some_first place f p x zero h = absurd (omega arith)
 some_first place f p x (suc n) h = omega arith
 
--- Of some entries, the items of the place of the first one.
+-- The items of the place of the first entry begin with that of the entry.
 pub first_of : {E Op : Type 0} (place : Op → ℕ) (f : E → Item Op) (y : List E) (a : E) → 0 < length y → a ≡ get_or y 0 a → with_first place f y ≡ f a ∷ there place (place (f a).op) (map f (drop 1 y))
 first_of place f [] a h is = absurd (omega arith)
 first_of {E} place f (b ∷ y) a h is = ap (λ (d : E). with_first place f (d ∷ y)) (sym is) ∙ there_at place (place (f a).op) (f a) (map f y) refl

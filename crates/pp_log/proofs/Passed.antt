@@ -72,7 +72,7 @@ module _ {Shape State Op Undo : Type 0} (o : Object Shape State Op Undo) (laws :
     abbrev rest : List Undo
     rest = kept_along o (o.next (o.next s a) c) z
 
-    -- what was kept of all, before and after
+    -- The undo values of all operations, before and after.
     before : kept_along o b (x ++ a ∷ c ∷ z) ≡ front ++ o.upkeep.kept s a ∷ o.upkeep.kept (o.next s a) c ∷ rest
     before = kept-append o b x (a ∷ c ∷ z)
 
@@ -164,7 +164,7 @@ module _ {Shape State Op Undo : Type 0} (o : Object Shape State Op Undo) (laws :
   size : length (take i items) ≡ i
   size = length-take-le i items (omega arith)
 
-  -- what was kept of them all
+  -- The undo values of all items.
   pub undos : us ≡ kept_along o b (x ++ a ∷ y)
   undos = h.kept ∙ ap (kept_along o b) whole_list
 

@@ -18,7 +18,7 @@ module _ {Shape State Op Undo : Type 0} (o : Object Shape State Op Undo) where
   fit-first sh [] y h = tt
   fit-first sh (a ∷ x) y h = (h.0, fit-first sh x y h.1)
 
-  -- of the operations before others, those of these
+  -- The first operations of a joined list are those of the first list.
   front_ops : (n : ℕ) (x z : List (Item Op)) → n ≤ length x → take n (ops (x ++ z)) ≡ take n (ops x)
   front_ops n x z le = let size = length-ops x in ap (take n) (ops-append x z) ∙ take-append-le n (ops x) (ops z) (omega arith)
 

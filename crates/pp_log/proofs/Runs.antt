@@ -124,7 +124,7 @@ module _ {Shape State Op Undo : Type 0} (o : Object Shape State Op Undo) (laws :
         kept = longer ∙ ap (λ (ws : List Undo). ws ++ u ∷ []) h.kept ∙ ap (λ (w : Undo). kept_along o b x ++ w ∷ []) (kept ∙ ap (λ (r : State). o.upkeep.kept r a) h.is) ∙ sym (kept-push o b x a) ∙ ap (kept_along o b) (sym cut);
       }
 
--- What is known of the last item that a run applied.
+-- The known facts about the last item that a run applied.
 pub record IsLast {Shape State Op Undo : Type 0} (o : Object Shape State Op Undo) (b s : State) (items : List (Item Op)) (us : List Undo) (a : Op) (u : Undo) : Type 0 where
   pub before : State
   pub shorter : IsRun o b items us before

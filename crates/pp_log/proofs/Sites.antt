@@ -37,7 +37,7 @@ from_mid {Op} place (d ∷ x) (suc i) e h is =
     let later : suc (i + 1) ≡ suc i + 1 = omega arith in
     from_mid place x i e (omega arith) is ∙ ap (λ (k : ℕ). length (there place (place e.op) (e ∷ drop k (d ∷ x)))) later
 
--- What is known of the i-th item of a list.
+-- The known facts about the i-th item of a list.
 pub record IsSite {Op : Type 0} (place : Op → ℕ) (log : List (Item Op)) (i : ℕ) (e : Item Op) (p : ℕ) : Type 0 where
   pub u : List (Item Op)
   pub v : List (Item Op)
@@ -73,7 +73,7 @@ pub taken_there : {Op : Type 0} (place : Op → ℕ) (log : List (Item Op)) (i :
 taken_there {Op} place log i e p k site index =
     ap (λ (z : List (Item Op)). remove z k) site.here ∙ ap (λ (j : ℕ). remove (site.u ++ e ∷ site.v) j) index ∙ remove_mid site.u site.v e ∙ sym site.taken
 
--- Of the entries from the i-th on, as they are lent, the items of its place.
+-- The items of its place among the entries from the i-th on, as they are lent.
 pub tail_of : {E Op : Type 0} (place : Op → ℕ) (f : E → Item Op) (x lent : List E) (i : ℕ) (a : E) (e : Item Op) (p : ℕ) → lent ≡ x → i < length (map f x) → a ≡ get_or x i a → e ≡ f a → p ≡ place e.op → (site : IsSite place (map f x) i e p) → with_first place f (take (length lent - i) (drop i lent)) ≡ e ∷ site.v
 tail_of {E} {Op} place f x lent i a e p same h is item here site =
     let size = length-map x f in
@@ -92,7 +92,7 @@ pub left_else : {A : Type 0} (removal : Removed) (x : List A) (i : ℕ) → (rem
 left_else Done x i n = absurd (n refl)
 left_else (Differs id answer) x i n = refl
 
--- What is known of the i-th item of a list that a log keeps, once it was found in its place.
+-- The known facts about the i-th item of a list that a log keeps, after it was found in its place.
 pub record IsFound {Op Undo : Type 0} (place : Op → ℕ) (log : List (Item Op)) (ps : List (Place Undo)) (i : ℕ) (e : Item Op) (p k : ℕ) (q : Place Undo) : Type 0 where
   pub site : IsSite place log i e p
   pub within : i < length log

@@ -97,7 +97,7 @@ module _ {Shape State Op Undo : Type 0} (o : Object Shape State Op Undo) (place 
       state_by_places o place SameAt laws places s x y h allowed (λ q. sym (parted place p q x))
       ∙ ap (state_from o s) (ops-append (elsewhere place p x) (there place p x)) ∙ state-append o s (ops (elsewhere place p x)) (ops (there place p x))
 
-  -- what a log knows of a place
+  -- The ids and undo values that a log keeps for a place are those of the whole run there.
   pub whole_of : (p : ℕ) (s : State) (log : List (Item Op)) (ps : List (Place Undo)) (q : Place Undo) → Keeps o place s log ps → slice_get ps p ≡ Some q → IsWhole o (state_after o (o.shape s) (ops (elsewhere place p log))) (there place p log) q s
   whole_of p s log ps q h e =
       let sh = o.shape s in

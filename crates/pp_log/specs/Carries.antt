@@ -12,7 +12,7 @@ pub record IsOnWay {Shape State Op Undo : Type 0} (o : Object Shape State Op Und
   pub allowed : AllowedFrom o b (x ++ a ∷ z)
   pub kept : us ≡ kept_along o b (x ++ a ∷ z)
 
--- What is kept of the operations x, and of a after them.
+-- The undo values of the operations x, and of a after them.
 pub record IsCarried {Shape State Op Undo : Type 0} (o : Object Shape State Op Undo)
     (b : State) (x : List Op) (a : Op) (us : List Undo) (u : Undo) : Type 0 where
   pub others : us ≡ kept_along o b x

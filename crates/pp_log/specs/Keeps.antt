@@ -1,4 +1,4 @@
--- Proof machinery: what a log keeps beside its entries.
+-- Proof machinery: what a log keeps in addition to its entries.
 use Rattle.std.specs.Prelude.{◌≡◌, ◌≤◌, ℕ, List, [], length, slice_get, Option, Some, None}
 use Rattle.pp_core.specs.declared.entry.Item.{Item}
 use Rattle.pp_model.specs.Object.{HasDistinctIds, ops}
@@ -17,7 +17,7 @@ pub record IsKept {Shape State Op Undo : Type 0} (o : Object Shape State Op Undo
   pub same_ids : q.ids.items ≡ ids_of items
   pub same_undos : q.undos.items ≡ kept_along o b (ops items)
 
--- What is kept for a place: nothing is needed where there are no items.
+-- The ids and undo values of a place. A place without items needs none.
 abbrev pub KeptIn :
     {Shape State Op Undo : Type 0} → Object Shape State Op Undo → State →
     List (Item Op) → Option (Place Undo) → Type 0

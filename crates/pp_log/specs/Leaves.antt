@@ -27,7 +27,7 @@ pub record CanLeave {Shape State Op Undo : Type 0} (o : Object Shape State Op Un
   pub keeps : KeepsAll o place s log ps ids
   pub stands : MayPassOut o place log i e
 
--- What is kept is then of the log without it.
+-- Afterwards the ids and undo values are those of the log without it.
 abbrev pub Leaves : {Shape State Op Undo : Type 0} → Object Shape State Op Undo → (Op → ℕ) → ℕ →
     Item Op → State → List (Place Undo) → Index → State → List (Place Undo) → Index → Type 0
 Leaves {Shape} {State} {Op} o place i e s ps ids t qs js =
@@ -42,7 +42,7 @@ pub record CanAllLeave {Shape State Op Undo : Type 0} (o : Object Shape State Op
   pub keeps : KeepsAll o place s log ps ids
   pub may : MayLeave o own log
 
--- What is kept is then of the others.
+-- Afterwards the ids and undo values are those of the others.
 abbrev pub AllLeave : {Shape State Op Undo : Type 0} → Object Shape State Op Undo → (Op → ℕ) →
     List (Item Op) → State → List (Place Undo) → Index → State → List (Place Undo) → Index → Type 0
 AllLeave {Shape} {State} {Op} o place own s ps ids t qs js =

@@ -1,5 +1,5 @@
--- Meaning: what a log says of its entries: their operations, and what it is to add one and to take
--- one out. item_of gives the id and the operation of an entry.
+-- Meaning: the entries of a log: their operations, and adding one and taking one out. item_of is
+-- the id and the operation of an entry.
 use Rattle.std.specs.Prelude.{◌≡◌, ◌≢◌, ◌==◌, ◌<◌, ◌≤◌, ◌+◌, ◌*◌, ℕ, zero, suc, List, []}
 use Rattle.std.specs.Prelude.{◌∷◌, ◌++◌, map, filter, length, remove, slice_get, Some, Result, IfOk}
 use Rattle.pp_core.specs.declared.answer.Answer.{Answer}
@@ -69,7 +69,7 @@ abbrev pub AreAllowed :
     Shape → List E → Type 0
 AreAllowed o item_of shape log = IsAllowed o shape (entry_ops item_of log)
 
--- What taking the i-th entry out of a log returns, and the log that it leaves.
+-- The result of taking the i-th entry out of a log, and the log after it.
 abbrev pub RemovesEntry :
     {Shape State Op Undo E : Type 0} → Object Shape State Op Undo → (E → Item Op) →
     Shape × List E → ℕ → Shape × List E → Removed → Type 0
@@ -85,14 +85,14 @@ from_place place [] i = 1
 from_place place (a ∷ x) zero = length (filter (λ b. place b == place a) (a ∷ x))
 from_place place (a ∷ x) (suc i) = from_place place x i
 
--- How many ticks a removal may take where k operations of the place, the removed one counted, are
--- from it to the end: if it is the last one, it alone is taken back.
+-- How many ticks a removal may take if k operations of the place, the removed one counted, are from
+-- it to the end. If it is the last one, it alone is taken back.
 abbrev pub removal_ticks : Removed → ℕ → ℕ → ℕ → Type 0
 removal_ticks Done k old new =
     (old ≤ new) × (new + 1 ≤ old + 2 * k) × (k ≡ 1 → new ≡ old + 1)
 removal_ticks (Differs id answer) k old new = (old ≤ new) × (new + 3 ≤ old + 4 * k)
 
--- The ticks of the removal of the i-th operation, by its answer.
+-- The ticks of the removal of the i-th operation, by its outcome.
 abbrev pub RemovalCosts :
     {Op L Error : Type 0} → (Op → ℕ) → List Op → ℕ → Result (L × Removed) Error → ℕ → ℕ → Type 0
 RemovalCosts place ops i result old new =

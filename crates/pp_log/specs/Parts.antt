@@ -17,7 +17,7 @@ elsewhere place p [] = []
 elsewhere place p (e ∷ x) =
     cond (nat_eq (place e.op) p) (elsewhere place p x) (e ∷ elsewhere place p x)
 
--- Of these entries, the items of the place of the first one.
+-- The items among these entries that have the place of the first one.
 abbrev pub with_first : {Op E : Type 0} → (Op → ℕ) → (E → Item Op) → List E → List (Item Op)
 with_first place item_of [] = []
 with_first place item_of (e ∷ x) = there place (place (item_of e).op) (map item_of (e ∷ x))

@@ -9,7 +9,7 @@ use Rattle.pp_kind.specs.Object.{Object, AllowedFrom, AllRanged, IsLog, state_fr
 use Rattle.pp_log.specs.declared.run.Stop.{Stop}
 use Rattle.pp_log.specs.Parts.{items_on}
 
--- What each operation left to take it back, from a state on.
+-- The undo value of each operation, from a state on.
 abbrev pub kept_along :
     {Shape State Op Undo : Type 0} → Object Shape State Op Undo → State → List Op → List Undo
 kept_along o s [] = []
@@ -49,7 +49,7 @@ abbrev pub Costs : Option Answer → ℕ → ℕ → ℕ → ℕ → Type 0
 Costs None old from to new = new + from ≡ old + to
 Costs (Some answer) old from to new = new + from ≡ old + to + 1
 
--- The answer of the entry where they stop.
+-- The result of the object for the entry at which they stop.
 abbrev pub answer_at : Option Stop → Option Answer
 answer_at stop = option_map (λ s. s.answer) stop
 

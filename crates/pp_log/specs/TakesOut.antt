@@ -49,7 +49,7 @@ pub record CanPassOut {Shape State Op Undo : Type 0} (o : Object Shape State Op 
 abbrev pub itself : {Op : Type 0} → Item Op → Item Op
 itself e = e
 
--- What taking the i-th item out of a place leaves.
+-- The ids and undo values of a place after taking the i-th item out.
 abbrev pub TakesOut :
     {Shape State Op Undo : Type 0} → Object Shape State Op Undo → State →
     List (Item Op) → ℕ → Place Undo → State → Removed → Type 0
@@ -66,8 +66,8 @@ TakesOutOf {Shape} {State} {Op} o from items old s new t removed =
     (b : State) (before : List (Item Op)) → length before ≡ from
     → IsWhole o b (before ++ items) old s → TakesOut o b (before ++ items) from new t removed
 
--- What taking the i-th item out leaves if it has this operation and those after it, which have its
--- place, may move past it.
+-- The ids and undo values of a place after taking the i-th item out, which has this operation.
+-- Those after it have its place, and may move past it.
 abbrev pub PassesOutOf :
     {Shape State Op Undo : Type 0} → Object Shape State Op Undo → (Op → ℕ) → ℕ → Op →
     Place Undo → State → Place Undo → State → Type 0

@@ -1,4 +1,4 @@
-//! What takes an operation back, carried after the operations that may move past it.
+//! Undo values, carried after the operations that may move past theirs.
 ghost use Rattle.std.specs.Prelude.{◌≡◌, ◌<◌, ◌≤◌, ◌+◌, IsTrue, false, length};
 ghost use Rattle.pp_log.specs.Batches.{CanGather, CarriesAllOver, Gathers};
 ghost use Rattle.pp_log.specs.Carries.{CarriesOut, CarriesOver};

@@ -7,13 +7,13 @@ use pp_core::OutOfMemory;
 use std::alloc::Global;
 use std::marker::Model;
 
-/// A list, which is in a vector after places that it has given up. If one is taken out, those after
-/// it move one place towards the start, or, if fewer are before it, these move one place towards
-/// the end. Contracts see the list, and for how many more there is room.
+/// A list, which is in a vector after unused positions. If an element is taken out, those after it
+/// move one position towards the start. If fewer are before it, these move one position towards the
+/// end instead. Contracts see the list, and for how many more there is room.
 #[derive(Drop)]
 pub struct Entries<E: Copy> {
     all: Vec<E>,
-    /// How many places at the start of the vector are given up.
+    /// How many positions at the start of the vector are unused.
     front: usize,
 }
 
@@ -67,8 +67,8 @@ impl<E: Copy> Entries<E> {
         self.front = 0;
     }
 
-    /// Makes room for one more. If more places are given up than there are elements, the list moves
-    /// to the start of the vector first. The only error is out of memory.
+    /// Makes room for one more. If more positions are unused than there are elements, the list
+    /// moves to the start of the vector first. The only error is out of memory.
     pub fn reserve(&mut self) -> Result<(), OutOfMemory>
         ensures items { self.new.items ≡ self.old.items }
         ensures room { OnOk result (0 < self.new.room) }

@@ -1,4 +1,4 @@
-//! The gap that an operation leaves where it is left out, carried over those after it.
+//! The gap that an operation leaves when it is left out, carried over those after it.
 ghost use Rattle.pp_log.specs.Gaps.{CrossesAll, LeavesGap};
 ghost use Rattle.pp_log.specs.Parts.{items_on};
 ghost use Rattle.pp_model.specs.Object.{ops};
@@ -18,7 +18,7 @@ pub enum Crossing<G, U> {
     /// Not at all. They are allowed without the operation before them; the one at this position
     /// among them then keeps this, and each of the others the same.
     Same { at: usize, undo: U },
-    /// That is not known: they may not be allowed without it.
+    /// It is not known: they may not be allowed without it.
     Unknown,
 }
 

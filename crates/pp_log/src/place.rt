@@ -1,10 +1,10 @@
-//! What a log keeps of one place, and what a removal returns.
+//! The ids and undo values that a log keeps for one place, and the outcome of a removal.
 ghost use Rattle.std.specs.Prelude.{◌≡◌, ◌<◌, List, [], ◌∷◌, ◌++◌, length, remove};
 ghost use Rattle.pp_log.specs.Room.{HasRoom};
 
 use pp_core::Answer;
 
-/// What taking an entry out of a log did.
+/// The outcome of taking an entry out of a log.
 #[derive(Clone, Copy, Debug, PartialEq, Eq)]
 pub enum Removed {
     /// The entry is out, and the list without it is allowed.
@@ -15,8 +15,8 @@ pub enum Removed {
     Differs { entry: u32, answer: Answer },
 }
 
-/// The ids of the entries of one place, in order, and what the operation of each left to take it
-/// back. The operations are in the entries.
+/// The ids of the entries of one place, in order, and their undo values. The operations are in the
+/// entries.
 #[derive(Drop)]
 pub struct Place<U: Drop> {
     pub ids: Vec<u32>,

@@ -8,12 +8,12 @@ use pp_core::{Answer, OutOfMemory, Ticks};
 use pp_kind::{Applied, Placed};
 use std::sync::ledger::Ledger;
 
-/// Where operations cannot be applied again.
+/// The point at which operations cannot be applied again.
 #[derive(Clone, Copy)]
 pub struct Stop {
     /// The position of the first entry whose recorded result the object does not return.
     pub at: usize,
-    /// What it returns.
+    /// The result that it returns.
     pub answer: Answer,
 }
 

@@ -6,7 +6,8 @@ ghost use Rattle.pp_log.specs.TakesOut.{itself};
 
 use pp_core::{Item, LocalEntry, SharedEntry};
 
-/// Whose log it is. It says what an entry is, of which a log knows the id and the operation alone.
+/// The side of a log: local or shared. It says what an entry is; a log knows only its id and
+/// operation.
 pub trait Side<O: Copy> {
     /// An entry of the log.
     type Entry: Copy;

@@ -1,4 +1,4 @@
--- What is known of the own entries of a local log, as the log changes.
+-- The own entries of a local log, as the log changes.
 use Rattle.std.proofs.Common.{◌≡◌, ◌≢◌, ◌⊎◌, ◌&&◌, ℕ, zero, suc, ◌<◌, ◌≤◌, ◌+◌, Bool, true, false}
 use Rattle.std.proofs.Common.{cond, List, [], ◌∷◌, ◌++◌, length, Option, Some, None, is_some}
 use Rattle.std.proofs.Common.{refl, sym, ◌∙◌, ap, subst, arith, inl, inr}
@@ -181,7 +181,7 @@ module _ {Op : Type 0} (x : List (LocalEntry Op)) where
       at_most : (p q r s : ℕ) → p + q ≡ r → s ≡ r → q ≤ s
       at_most p q r s h l = omega arith
 
-  -- what is known of the log without an entry
+  -- The known facts about the own entries stay true when an entry is taken out.
   pub known_removed : (C D : Op → Type 0) (i : ℕ) (e : LocalEntry Op) (n m from start to end : ℕ) → Some e ≡ slice_get x i →
       (0 < m → (b : Op) → C b → D b) → m + length (own (e ∷ [])) ≡ n →
       (i < from → start + 1 ≡ from) → (from ≤ i → start ≡ from) →
@@ -203,7 +203,7 @@ module _ {Op : Type 0} (x : List (LocalEntry Op)) where
       same_rest : (p q r s t : ℕ) → p + s ≡ q → q ≡ t → r + s ≡ t → p ≡ r
       same_rest p q r s t u v w = omega arith
 
-  -- what covers the operations of the log with one more entry
+  -- The operations of the log with one more entry are covered, if the new one's is.
   pub covered_added : (C D : Op → Type 0) (e : LocalEntry Op) → ((b : Op) → C b → D b) → (is_own e.mark ≡ true → D e.op) →
       ((d : LocalEntry Op) → In d x → is_own d.mark ≡ true → C d.op) →
       (d : LocalEntry Op) → In d (x ++ e ∷ []) → is_own d.mark ≡ true → D d.op
@@ -290,7 +290,7 @@ own_mark Pushed n = refl
 own_mark Pulled n = absurd (n refl)
 
 module _ {Shape Op : Type 0} (old new : Shape × List (LocalEntry Op)) (z : List (LocalEntry Op)) (list : z ≡ new.1) (e : LocalEntry Op) where
-  -- what is known of the log with one more entry
+  -- The known facts about the own entries of the log with one more entry.
   module _ (is : new ≡ (old.0, old.1 ++ e ∷ [])) where
     grown : z ≡ old.1 ++ e ∷ []
     grown = list ∙ ap (λ (p : Shape × List (LocalEntry Op)). p.1) is
@@ -322,7 +322,7 @@ module _ {Shape Op : Type 0} (old new : Shape × List (LocalEntry Op)) (z : List
           pushed = pushed;
         })
 
-  -- what is known of the log in which one was set
+  -- The known facts about the own entries stay true when a mark is set.
   pub known_marked : (C : Op → Type 0) (i : ℕ) (d : LocalEntry Op) (n from start to end : ℕ) → new ≡ (old.0, slice_set old.1 i e) →
       Some d ≡ slice_get old.1 i → e.op ≡ d.op → is_own d.mark ≡ true → is_own e.mark ≡ true →
       start ≤ length z → NoneUnpushedBefore z start → end ≤ length z → NonePushedFrom z end →

@@ -41,7 +41,7 @@ fn moved_back<O: Copy>(entries: &[LocalEntry<O>], to: usize) -> usize
     start
 }
 
-/// The first frontier, where the i-th entry is new or has another mark.
+/// The first frontier, if the i-th entry is new or has another mark.
 pub fn unpushed_from<O: Copy>(entries: &[LocalEntry<O>], i: usize, from: usize) -> usize
     requires inside { i < length entries.now }
     requires within { from ≤ length entries.now }
@@ -55,7 +55,7 @@ pub fn unpushed_from<O: Copy>(entries: &[LocalEntry<O>], i: usize, from: usize) 
     moved_on(entries, from)
 }
 
-/// The second frontier, where the i-th entry is new or has another mark.
+/// The second frontier, if the i-th entry is new or has another mark.
 pub fn pushed_to<O: Copy>(entries: &[LocalEntry<O>], i: usize, to: usize) -> usize
     requires inside { i < length entries.now }
     requires within { to ≤ length entries.now }

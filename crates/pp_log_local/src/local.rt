@@ -143,7 +143,7 @@ impl<S: Parted> Local<S> {
         Ok(())
     }
 
-    /// Gives one of the transaction's own entries another mark.
+    /// Sets the mark of one of the transaction's own entries.
     pub fn mark(&mut self, i: usize, mark: Mark)
         requires within { i < length self.old.1 }
         requires own { (e : EntryOf S.Op) → slice_get self.old.1 i ≡ Some e → e.mark ≢ Pulled }
@@ -162,7 +162,7 @@ impl<S: Parted> Local<S> {
     }
 
     /// The first own unpushed entry before a position that the operation may not come before. It
-    /// walks over nothing where the samples show that it may come before all that are own.
+    /// walks over nothing if the samples show that it may come before all own entries.
     pub fn first_holding_back(&self, i: usize, op: &S::Op) -> Option<usize>
         requires { i ≤ length self.now.1 }
         ensures { result ≡ position (holds_back S.object op.now) (take i self.now.1) }

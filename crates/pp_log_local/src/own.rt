@@ -8,7 +8,7 @@ use crate::movers::is_own;
 use pp_core::LocalEntry;
 use pp_kind::{Parted, Samples};
 
-/// Takes a new entry in, if it is own. The count is the answer.
+/// Adds a new entry to the samples, if it is own. Returns the new count.
 pub fn with<S: Parted>(samples: &mut Samples<S>, count: usize, entry: &LocalEntry<S::Op>) -> usize
     requires { count < MOST_OPERATIONS }
     ensures keeps { (b : S.Op) → Covers S.object samples.old b → Covers S.object samples.new b }
@@ -22,7 +22,7 @@ pub fn with<S: Parted>(samples: &mut Samples<S>, count: usize, entry: &LocalEntr
     count + 1
 }
 
-/// Leaves an entry out, if it is own. With the last one all samples go. The count is the answer.
+/// Leaves an entry out, if it is own. With the last one all samples go. Returns the new count.
 pub fn without<S: Parted>(
     samples: &mut Samples<S>,
     count: usize,

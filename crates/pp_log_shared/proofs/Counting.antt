@@ -123,7 +123,7 @@ changed f still owner label old new now is counts h q = at (same_holder (holder_
         ap (λ (t : Option Counted). amount q (counted_of t)) found ∙ sym (still (held old h q))
         ∙ ap (λ (b : Bool). f (held old h q) (one_if (b && is_number q label.number))) (sym other)
 
--- what passes of the numbers passes of those that others have
+-- A number that passes the test of all numbers passes that of the numbers of others.
 or_left : (a b : Bool) → (a || b) ≡ true → (b ≡ true → ⊥) → a ≡ true
 or_left true b h never = refl
 or_left false b h never = absurd (never h)
@@ -257,7 +257,7 @@ module _ {Shape State Op Undo : Type 0} (o : Object Shape State Op Undo) (label_
       here a (form ∙ parts.1) (subst (λ (f : ℕ). HasOthers own owner f e.1 (label_of a).number) parts.1 others)
   form_at h e rest a false is form here later others = later others
 
-  -- what others have of a form swaps
+  -- The operations of a form that others have swap with the operation.
   held_swaps : (all : TallyList) (h : Holder) (a : Op) → AllFormsSwap o label_of owner b own all → (label_of a).form ≡ h.form
       → HasOthers own owner h.form (counted_of (lookup (same_holder h) all)) (label_of a).number → Swaps o a b
   held_swaps [] h a swaps form others = let none = others.size in absurd (omega arith)

@@ -9,12 +9,12 @@ use Rattle.pp_model.specs.Config.{shared_item}
 use Rattle.pp_log.specs.Logs.{IsFirstFrom, IsOn, NoneFrom}
 use Rattle.pp_log_shared.specs.Committing.{IsCommittedOn}
 
--- It holds of no entry from a position on and before another.
+-- It is true for no entry from a position on and before another.
 abbrev pub NoneBetween : {E : Type 0} → (E → Type 0) → List E → ℕ → ℕ → Type 0
 NoneBetween {E} Holds log from to =
     (j : ℕ) (e : E) → from ≤ j → j < to → slice_get log j ≡ Some e → Holds e → ⊥
 
--- what was read of a list
+-- The element that was read at a position of a list is the one there.
 pub read : {E : Type 0} (x y : List E) (k : ℕ) (e : E) → x ≡ y → k < length y → e ≡ get_or x k e → slice_get y k ≡ Some e
 read {E} x y k e same size is = slice_get-get_or y k e size ∙ ap Some (sym (is ∙ ap (λ (z : List E). get_or z k e) same))
 

@@ -42,7 +42,7 @@ open_behind part_of p (e ∷ x) (suc k) h =
     open_behind part_of p x k rest
     ∙ sym (ap (λ (b : Bool). cond (not b && same_part (part_of e.op) p) (e ∷ open_in part_of p x) (open_in part_of p x)) (h.committed 0 e (omega arith) refl))
 
--- What is known of the whole log is known of the entries after the front, and the other way round.
+-- The known facts about the whole log are those about the entries after the front.
 module _ {Shape State Op Undo : Type 0} (o : Object Shape State Op Undo) (label_of : Op → Label) (part_of : Op → Part) (slots : List (Part × OpenPart (SampleList Op))) (x : List (SharedEntry Op)) (k : ℕ) (h : IsSettled x k) where
   -- The facts about the uncommitted entries of a log are true of those after its settled front.
   pub known_behind : KeepsOpen o label_of part_of slots x → KeepsOpen o label_of part_of slots (drop k x)

@@ -1,4 +1,4 @@
--- What is known of the uncommitted entries of a log that changes.
+-- The uncommitted entries of a log that changes.
 use Rattle.std.proofs.Common.{◌≡◌, ◌≢◌, ℕ, zero, suc, ◌+◌, ◌≤◌, Bool, true, false, not, cond}
 use Rattle.std.proofs.Common.{◌&&◌, ◌==◌, filter, List, [], ◌∷◌, ◌++◌, length, Option, None, Some, refl}
 use Rattle.std.proofs.Common.{sym, ◌∙◌, ap, subst, arith, inl, inr, length-append}
@@ -166,7 +166,7 @@ module _ {Shape State Op Undo : Type 0} (o : Object Shape State Op Undo) (label_
     pub tells_nothing : KeepsOpen o label_of part_of [] []
     tells_nothing = record { told = λ p. refl }
 
-    -- what is known of the entries of one part
+    -- The known facts about the entries of one part.
     pub told_at : (slots : List (Part × OpenPart (SampleList Op))) (x : List (SharedEntry Op)) (p : Part) (r : Option (OpenPart (SampleList Op))) → lookup (same_part p) slots ≡ r → KeepsOpen o label_of part_of slots x → TellsOf o label_of r (open_in part_of p x)
     told_at slots x p r is kept = subst (λ (s : Option (OpenPart (SampleList Op))). TellsOf o label_of s (open_in part_of p x)) is (kept.told p)
 
@@ -237,7 +237,7 @@ module _ {Shape State Op Undo : Type 0} (o : Object Shape State Op Undo) (label_
         subst (λ (p : Part). ((q : Part) → lookup (same_part q) new ≡ cond (same_part p q) r (lookup (same_part q) old)) → (LosesOne e (open_in part_of p x) (open_in part_of p y) → TellsOf o label_of r (open_in part_of p y)) → KeepsOpen o label_of part_of new y) (sym here)
         (λ is2 told2. kept_less old new x y e r uncommitted is2 told2 kept out) is told
 
-    -- what else is known of a part, whose entries stay
+    -- The other known facts about a part whose entries stay.
     pub kept_at : (k : Part) (old new : List (Part × OpenPart (SampleList Op))) (x : List (SharedEntry Op)) (slot : OpenPart (SampleList Op))
         → ((q : Part) → lookup (same_part q) new ≡ cond (same_part k q) (Some slot) (lookup (same_part q) old))
         → Tells o label_of slot (open_in part_of k x) → KeepsOpen o label_of part_of old x → KeepsOpen o label_of part_of new x

@@ -1,4 +1,4 @@
--- Meaning: committed entries, and what a commit has to be told of those that it commits.
+-- Meaning: committed entries, and what a commit must know about the entries that it commits.
 use Rattle.std.specs.Prelude.{◌≡◌, ℕ, true, false, List}
 use Rattle.pp_core.specs.declared.entry.Item.{Item}
 use Rattle.pp_core.specs.declared.entry.SharedEntry.{SharedEntry}

@@ -11,12 +11,12 @@ use Rattle.pp_kind.specs.declared.label.Label.{Label}
 use Rattle.pp_kind.specs.Object.{Object, Swaps}
 use Rattle.pp_log_shared.specs.declared.numbers.Holder.{Holder}
 
--- What is counted of some entries: how many have each number, and how many they are.
+-- The counts of some entries: how many have each number, and how many there are.
 pub record Counted : Type 0 where
   pub numbers : List (ℤ × ℕ)
   pub size : ℕ
 
--- nothing, also where there are none
+-- no counts
 abbrev pub none_counted : Counted
 none_counted = record { numbers = []; size = 0 }
 
@@ -24,12 +24,12 @@ abbrev pub counted_of : Option Counted → Counted
 counted_of None = none_counted
 counted_of (Some counted) = counted
 
--- how many have a number, or how many they are if no number is asked for
+-- how many have a number, or how many there are if no number is required
 abbrev pub amount : Option ℤ → Counted → ℕ
 amount None counted = counted.size
 amount (Some n) counted = count_at (λ m. lookup (int_eq m) counted.numbers) n
 
--- it is the number if one is asked for
+-- it is the number, if one is required
 abbrev pub is_number : Option ℤ → ℤ → Bool
 is_number None m = true
 is_number (Some n) m = int_eq m n
@@ -64,7 +64,7 @@ Loses old new owner label = (h : Holder) (q : Option ℤ) → held new h q ≡ h
     - one_if (same_holder (holder_at owner label) h && is_number q label.number)
 
 module _ {Op : Type 0} (view : Name → Option Name) (label_of : Op → Label) where
-  -- the entry is of an owner and a form, and has a number, where its owner is seen so
+  -- the entry is of an owner and a form, and has a number, if its owner is seen
   abbrev pub is_held_at : Holder → Option ℤ → SharedEntry Op → Bool
   is_held_at h q e = same_holder (holder_at (view e.owner) (label_of e.op)) h
       && is_number q (label_of e.op).number
@@ -77,7 +77,7 @@ module _ {Op : Type 0} (view : Name → Option Name) (label_of : Op → Label) w
   pub record Counts (tallies : TallyList) (x : List (SharedEntry Op)) : Type 0 where
     pub counts : (h : Holder) (q : Option ℤ) → held tallies h q ≡ times h q x
 
--- What is counted of all entries together, and of each owner.
+-- The counts of all entries together, and of each owner.
 pub record NumberList : Type 0 where
   pub all : TallyList
   pub own : TallyList
@@ -92,7 +92,7 @@ module _ {Op : Type 0} (label_of : Op → Label) where
     pub all : Counts as_one label_of numbers.all x
     pub own : Counts Some label_of numbers.own x
 
-  -- So it is where numbers are kept.
+  -- The same, if numbers are kept.
   abbrev pub CountsAllOf : Option NumberList → List (SharedEntry Op) → Type 0
   CountsAllOf None x = Unit {0}
   CountsAllOf (Some numbers) x = CountsAll numbers x

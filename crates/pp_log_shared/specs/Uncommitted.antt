@@ -28,7 +28,7 @@ abbrev pub open_in : {Op : Type 0} → (Op → Part) → Part → List (SharedEn
     List (SharedEntry Op)
 open_in part_of p log = filter (is_open_in part_of p) log
 
--- What is known of a part is so of these entries.
+-- The known facts about a part are true for these entries.
 pub record Tells {Shape State Op Undo : Type 0} (o : Object Shape State Op Undo)
     (label_of : Op → Label) (slot : OpenPart (SampleList Op)) (x : List (SharedEntry Op)) :
     Type 0 where
@@ -37,13 +37,13 @@ pub record Tells {Shape State Op Undo : Type 0} (o : Object Shape State Op Undo)
   pub covers : (e : SharedEntry Op) → In e x → Covers o slot.samples e.op
   pub numbers : CountsAllOf label_of slot.numbers x
 
--- Where nothing is known there are none.
+-- If nothing is known about a part, there are no entries.
 abbrev pub TellsOf : {Shape State Op Undo : Type 0} → Object Shape State Op Undo → (Op → Label) →
     Option (OpenPart (SampleList Op)) → List (SharedEntry Op) → Type 0
 TellsOf o label_of None x = x ≡ []
 TellsOf o label_of (Some slot) x = Tells o label_of slot x
 
--- What is known of each part is so of the uncommitted entries of a log.
+-- The known facts about each part are true for the uncommitted entries of a log.
 pub record KeepsOpen {Shape State Op Undo : Type 0} (o : Object Shape State Op Undo)
     (label_of : Op → Label) (part_of : Op → Part)
     (slots : List (Part × OpenPart (SampleList Op))) (log : List (SharedEntry Op)) : Type 0 where
@@ -53,7 +53,8 @@ pub record KeepsOpen {Shape State Op Undo : Type 0} (o : Object Shape State Op U
 abbrev pub LosesOne : {E : Type 0} → E → List E → List E → Type 0
 LosesOne {E} e x y = (u : List E) × (v : List E) × (x ≡ u ++ e ∷ v) × (y ≡ u ++ v)
 
--- So it is where the entry was counted, and else the lists are the same.
+-- The second list is the first one without the entry, if the entry was counted; otherwise the lists
+-- are the same.
 abbrev pub LosesAt : {E : Type 0} → E → Bool → List E → List E → Type 0
 LosesAt e true x y = LosesOne e x y
 LosesAt e false x y = y ≡ x
@@ -64,7 +65,7 @@ abbrev pub LeavesOut : {Op : Type 0} → (Op → Part) → SharedEntry Op → Li
 LeavesOut part_of e x y =
     (p : Part) → LosesAt e (is_open_in part_of p e) (open_in part_of p x) (open_in part_of p y)
 
--- What the shared log keeps beside its entries.
+-- What the shared log keeps in addition to its entries.
 pub record KeepsShared {Shape State Op Undo : Type 0} (o : Object Shape State Op Undo)
     (label_of : Op → Label) (part_of : Op → Part) (log : List (SharedEntry Op))
     (slots : List (Part × OpenPart (SampleList Op))) (settled : ℕ) : Type 0 where

@@ -1,4 +1,4 @@
-//! What the shared log knows of its uncommitted entries, part by part.
+//! What the shared log knows about its uncommitted entries, part by part.
 ghost use Rattle.std.specs.Prelude.{◌≡◌, ◌<◌, OnOk, IsTrue, false, List, [], ◌∷◌, ◌++◌, length};
 ghost use Rattle.indexmap.specs.IndexMap.{spare};
 ghost use Rattle.pp_core.specs.declared.entry.SharedEntry.{SharedEntry as EntryOf};
@@ -13,8 +13,8 @@ use pp_core::{Name, OutOfMemory, SharedEntry};
 use pp_kind::{Part, Parted, Samples};
 use std::alloc::Global;
 
-/// What is known of the uncommitted entries of one part. The samples are of their operations. If
-/// there is none, the owner and the samples are those of earlier ones, and say nothing.
+/// What is known about the uncommitted entries of one part. The samples represent their operations.
+/// If there is none, the owner and the samples are those of earlier ones, and say nothing.
 #[derive(Drop)]
 pub struct OpenPart<T> {
     /// How many there are.
@@ -27,7 +27,7 @@ pub struct OpenPart<T> {
     pub numbers: Option<Numbers>,
 }
 
-/// What is known where the entry is the only one.
+/// What is known if the entry is the only one.
 fn first<S: Parted>(alloc: Global, entry: &SharedEntry<S::Op>) -> OpenPart<Samples<S>>
     ensures { Tells S.object S.label_of result (entry.now ∷ []) }
 {
@@ -83,8 +83,8 @@ fn wants_numbers<S: Parted>(slot: &OpenPart<Samples<S>>, entry: &SharedEntry<S::
     !slot.samples.all_before(&entry.op)
 }
 
-/// What is known of the uncommitted entries of a log. For each part that has some, or had some: how
-/// many there are, whose they are, and operations that represent theirs. Their numbers are kept
+/// What is known about the uncommitted entries of a log. For each part that has some, or had some:
+/// how many there are, whose they are, and operations that represent theirs. Their numbers are kept
 /// too, if these do not show that all entries of several owners commute, and the log is long after
 /// the settled position. A part keeps its slot when its last entry is left out, since operations
 /// come to the same parts again.
@@ -114,7 +114,7 @@ impl<S: Parted> OpenParts<S> {
         Ok(())
     }
 
-    /// Adds an entry, for which there is room. The answer is whether numbers of its part are worth
+    /// Adds an entry, for which there is room. Returns whether numbers of its part are worth
     /// keeping; nothing is promised of it.
     pub fn add(&mut self, entry: &SharedEntry<S::Op>) -> bool
         requires room { 0 < spare self.old.slots }

@@ -34,7 +34,7 @@ const SHORT_WALK: usize = 64;
 #[derive(Drop)]
 pub struct Shared<S: Parted> {
     log: Log<S, SharedSide>,
-    /// What is known of the uncommitted entries.
+    /// What is known about the uncommitted entries.
     open: OpenParts<S>,
     /// All entries before this position are committed.
     settled: usize,
@@ -79,8 +79,8 @@ fn settle<O: Copy>(entries: &[SharedEntry<O>], from: usize) -> usize
     entries.len()
 }
 
-/// A position before which all entries are committed once these are taken out: at most that of the
-/// first of them, so that those before it stay where they are.
+/// A position before which all entries are committed after these are taken out. It is at most that
+/// of the first of them, so those before it keep their positions.
 fn settled_without<S: Parted>(
     log: &Log<S, SharedSide>,
     own: &[Item<S::Op>],

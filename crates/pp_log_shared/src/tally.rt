@@ -113,7 +113,7 @@ impl Tally {
             Gate::Open => true,
             Gate::Shut => false,
             Gate::Unless(number) => self.count(number) <= own.count(number),
-            // Mostly all of them pass, and then it is not asked whose they are.
+            // Usually all of them pass, and then their owners do not matter.
             _ => self.each_passes(gate) || self.each_passes_or_is_own(own, gate),
         }
     }

@@ -1,4 +1,4 @@
--- What the tests of APP say of a machine, while its box lends its parts, and these lend the course of a transaction.
+-- The tests of APP on a machine whose parts are lent, and on the course of a transaction that these lend.
 use Rattle.std.proofs.Common.{◌≡◌, ◌==◌, ◌<◌, ◌+◌, ℕ, IsTrue, false, true, List, [], ◌∷◌, ◌++◌, Option, Some, option_map}
 use Rattle.std.proofs.Common.{ap, refl, subst, sym, ◌∙◌}
 use Rattle.std.specs.List.{list_any}

@@ -18,11 +18,11 @@ use Rattle.pp_model.proofs.Trace.{keep_all}
 use Rattle.pp_model.proofs.Finding.{find_nowhere, place_none, placed, stands_in}
 use Rattle.pp_log_local.proofs.Places.{from_within, get_taken, place_within, stands_from}
 
--- where a test holds first
+-- If `position` finds a position, `position_or_len` is that position.
 pub place_or_len : {X : Type 0} (p : X → Bool) (xs : List X) (i : ℕ) → position p xs ≡ Some i → position_or_len p xs ≡ i
 place_or_len p xs i h = grind (arith, common_steps)
 
--- what is found by a key, and then has to pass another test
+-- The element that is found by a key and passes another test is the first that passes both.
 found_both : {X : Type 0} (p q : X → Bool) (y x : X) (ys : List X) → q x ≡ true → (find p ys ≡ Some x → find (λ z. p z && q z) ys ≡ Some x) →
     (b : Bool) → p y ≡ b → cond b (Some y) (find p ys) ≡ Some x → cond (b && q y) (Some y) (find (λ z. p z && q z) ys) ≡ Some x
 found_both {X} p q y x ys t f true e h = let k = same_Some y x h in ap (λ (c : Bool). cond c (Some y) (find (λ z. p z && q z) ys)) (ap q k ∙ t) ∙ ap (λ (z : X). Some z) k
@@ -80,7 +80,7 @@ pub find_map : {X Y : Type 0} (f : X → Y) (p : Y → Bool) (xs : List X) → f
 find_map f p [] = refl
 find_map {X} {Y} f p (x ∷ xs) = ap (λ (r : Option Y). cond (p (f x)) (Some (f x)) r) (find_map f p xs) ∙ map_cond f x (find (λ y. p (f y)) xs) (p (f x))
 
--- What is at a place, and before it.
+-- A position with an element is below the length of the list.
 pub slice_within : {X : Type 0} (xs : List X) (i : ℕ) (x : X) → slice_get xs i ≡ Some x → i < length xs
 slice_within [] i x h = absurd (cc)
 slice_within (y ∷ ys) zero x h = omega arith
@@ -119,7 +119,7 @@ not_placed {Op} l id h a i e =
     let n = find_nowhere (λ (z : LocalEntry Op). z.id == id) l (place_none (λ (z : LocalEntry Op). z.id == id) l h) a i in
     let z : true ≡ false = sym (eq-eqb a.id id e) ∙ n in cc
 
--- what is said of a place that is there, and of one that is not
+-- If there is a position, it is known.
 pub a_place : (r : Option ℕ) (b : Bool) → b ≡ is_some r → b ≡ true → (k : ℕ) × (r ≡ Some k)
 a_place None b e t = let z : true ≡ false = sym t ∙ e in cc
 a_place (Some k) b e t = (k, refl)
@@ -133,7 +133,7 @@ no_place (Some k) b e t = let z : true ≡ false = sym e ∙ t in cc
 pub place_in : {X : Type 0} (p : X → Bool) (xs : List X) (i : ℕ) → position p xs ≡ Some i → (x : X) × In x xs × (p x ≡ true)
 place_in p xs i h = let q = placed p xs i h in (q.0, stands_in xs i q.0 q.1, q.2)
 
--- What is after a place.
+-- An element after a position is an element of the list.
 pub in_dropped : {X : Type 0} (i : ℕ) (a : X) (xs : List X) → In a (drop i xs) → In a xs
 in_dropped zero a xs h = h
 in_dropped (suc i) a [] h = elim h [ ]
@@ -160,7 +160,7 @@ before_taken (suc i) a b [] h = elim h [ ]
 before_taken (suc i) a b (y ∷ ys) (inl k) = inl (k.0, in_taken i b ys k.1)
 before_taken (suc i) a b (y ∷ ys) (inr k) = inr (before_taken i a b ys k)
 
--- If keys are distinct, what is before an element of a front is before it in the front.
+-- If keys are distinct, an element before an element of the first part is before it in the first part.
 pub taken_before : {X K : Type 0} (f : X → K) (xs : List X) → ((p q : X) → Before p q xs → f p ≡ f q → ⊥) → (i : ℕ) (a b : X) → In b (take i xs) → Before a b xs → Before a b (take i xs)
 taken_before f [] d i a b j k = elim k [ ]
 taken_before f (y ∷ ys) d zero a b j k = elim j [ ]
@@ -184,7 +184,7 @@ dropped_before f (y ∷ ys) d zero x a b h j (inr k) = k
 dropped_before f (y ∷ ys) d (suc i) x a b h (inl j) (inr k) = absurd (d y x (inl (refl, stands_in ys i x h)) (ap f (sym j.0)))
 dropped_before f (y ∷ ys) d (suc i) x a b h (inr j) (inr k) = dropped_before f ys (λ p q w. d p q (inr w)) i x a b h j k
 
--- what is found is the first that passes
+-- The element that is found is the first that passes the test.
 pub before_found : {X K : Type 0} (f : X → K) (p : X → Bool) (xs : List X) → ((u v : X) → Before u v xs → f u ≡ f v → ⊥) → (x z : X) → find p xs ≡ Some x → Before z x xs → p z ≡ false
 before_found f p [] d x z h b = elim b [ ]
 before_found {X} f p (y ∷ ys) d x z h b = go (p y) refl h b (λ k w. before_found f p ys (λ u v q. d u v (inr q)) x z k w)
@@ -241,7 +241,7 @@ filter_short {X} p (x ∷ xs) = go (p x) (filter_short p xs)
     go true k = omega (arith, k)
     go false k = omega (arith, k)
 
--- what an index reads
+-- The element that an index reads is the one at that position.
 pub read_there : {X : Type 0} (xs : List X) (k : ℕ) (x y : X) → slice_get xs k ≡ Some y → x ≡ get_or xs k x → y ≡ x
 read_there xs k x y h e = sym (get_or_from_slice_get xs k y x h) ∙ sym e
 
@@ -249,7 +249,7 @@ read_there xs k x y h e = sym (get_or_from_slice_get xs k y x h) ∙ sym e
 pub read_found : {X : Type 0} (p : X → Bool) (xs : List X) (k : ℕ) (x : X) → position p xs ≡ Some k → x ≡ get_or xs k x → slice_get xs k ≡ Some x
 read_found {X} p xs k x h e = let r = placed p xs k h in r.1 ∙ ap (λ (z : X). Some z) (read_there xs k x r.0 r.1 e)
 
--- What an index reads at a place that was found in a list, before or after another place.
+-- The element that an index reads at a position that was found in a list, before or after another position.
 module _ {X : Type 0} (p : X → Bool) (xs l : List X) (e : xs ≡ l) where
   -- A position that was found in a list is below its length.
   pub found_within : (k : ℕ) → position p l ≡ Some k → k < length xs

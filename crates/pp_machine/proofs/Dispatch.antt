@@ -1,4 +1,4 @@
--- What the function of a rule says of its own step, said of the step that was asked.
+-- The result of a rule's function for its own step is a result for the equal step that was requested.
 use Rattle.std.proofs.Common.{◌≡◌, ◌≤◌, ◌+◌, ℕ, zero, suc, Result, Ok, Err, IfOk, sym, ap, subst}
 use Rattle.std.proofs.Common.{arith}
 use Rattle.pp_model.specs.Config.{Step}
@@ -20,12 +20,12 @@ module _ {Shape State Op Undo : Type 0} (o : Object Shape State Op Undo) (v : Se
   one_more s (False n detail) w h = let e : w.count ≡ v.count = ap (λ (z : Seen Shape Op). z.count) h.2 in omega (arith, e)
 
   module _ {E : Type 0} (r : Result (Seen Shape Op × Outcome Op) E) (s asked : Step Op) (is : asked ≡ s) where
-    -- The effect of a step is the effect of the step that was asked, if they are equal.
+    -- The effect of a step is the effect of an equal step.
     pub effect_of : IfOk r (λ k. Stepped o v s k.1 k.0) → IfOk r (λ k. Stepped o v asked k.1 k.0)
     effect_of h = subst (λ (z : Step Op). IfOk r (λ k. Stepped o v z k.1 k.0)) (sym is) h
 
   module _ (laws : IsLawful o) (sound : Sound (rules_of o v.shape) v.config) (s : Step Op) (asks : IsAsked o v.shape s) where
-    -- what the evidence of the asked step shows
+    -- The evidence of a step shows the facts of an equal step.
     pub shows_by : (out : Outcome Op) (w : Seen Shape Op) → Stepped o v s out w → IsShown o v s out
     shows_by Done w h = tt
     shows_by (False zero detail) w h = absurd (omega (arith, h.1))
@@ -52,6 +52,6 @@ module _ {Shape Op : Type 0} (place : Op → ℕ) (v : Seen Shape Op) where
   free (Ok k) s a e h = free_by s k.1 a e h
   free (Err x) s a e h = omega arith
 
-  -- a step whose function is not given the counter costs nothing
+  -- A step whose function does not get the counter costs nothing.
   pub free_of : {A E : Type 0} (r : Result (A × Outcome Op) E) (s asked : Step Op) (a : ℕ) → asked ≡ s → CostsDone place v.config s a a → CostsInVain place v.config s a a → Costs place v asked r a a
   free_of r s asked a is e h = subst (λ (z : Step Op). Costs place v z r a a) (sym is) (free r s a e h)

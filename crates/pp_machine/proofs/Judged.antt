@@ -1,4 +1,4 @@
--- What judging a step hands on to its effect.
+-- What judging a step passes on to its effect.
 use Rattle.std.proofs.Common.{◌≡◌, ◌==◌, ◌-◌, ℕ, true, false, List, map, length, Option, Some, None}
 use Rattle.std.proofs.Common.{option_map, position, slice_get, sym, ap, subst, ◌∙◌, arith}
 use Rattle.std.proofs.lemmas.Bool.{eq-eqb}

@@ -1,4 +1,4 @@
--- What each machine keeps holds after each step.
+-- The invariant of a machine is true after each step.
 use Rattle.std.proofs.Common.{◌≡◌, ◌≢◌, ◌==◌, ℕ, ◌<◌, ◌≤◌, ◌+◌, IsTrue, Bool, true, false, cond}
 use Rattle.std.proofs.Common.{not, List, [], ◌∷◌, ◌++◌, map, filter, length, Option, Some, None}
 use Rattle.std.proofs.Common.{position, slice_get, refl, sym, ◌∙◌, ap, subst, arith, inl, inr}
@@ -324,7 +324,7 @@ module _ {Shape State Op Undo : Type 0} (o : Object Shape State Op Undo) (shape 
   owns t id m d l r p i q at =
       (open_of t r.thread r.body l, r.at, record { within = slice_within l.1 i p at; entry = p; here = at; own = λ e. d (sym (found_mark id m l.1 p q).2 ∙ e) })
 
-  -- the course of t, where t is one of the transactions
+  -- The course of t, if t is one of the transactions.
   same_course : (t : Name) (k : Guided Shape Op) → HasCourse o shape v ids G F n h t k → (x : Open Shape Op) → In x v.opened → x.name ≡ t → course_of x ≡ k
   same_course t k r x i e =
       let q = found (λ (z : Open Shape Op). z.name =ⁿ t) v.opened _ (r.log).at in
@@ -344,7 +344,7 @@ module _ {Shape State Op Undo : Type 0} (o : Object Shape State Op Undo) (shape 
   pub course_same : (t : Name) (k new : Guided Shape Op) → HasCourse o shape v ids G F n h t k → new ≡ k → with_course t new v ≡ v
   course_same t k new r e = with_course_is t k new r (λ z. z) e ∙ ap (λ (z : List (Open Shape Op)). record { names = v.names; opened = z }) (all_same v.opened t)
 
-  -- what is said of the open transaction t holds of its course
+  -- A fact about the open transaction t is a fact about its course.
   pub of_course : (t : Name) (k : Guided Shape Op) → HasCourse o shape v ids G F n h t k → (x : Open Shape Op) → open_at t v.opened ≡ Some x → course_of x ≡ k
   of_course t k r x e =
       ap (λ (z : Open Shape Op). course_of z) (same_Some x _ (sym e ∙ (r.log).at))
@@ -427,7 +427,7 @@ module _ {Shape State Op Undo : Type 0} (o : Object Shape State Op Undo) (shape 
         serial_ranged = h.serial_ranged;
       }
 
-  -- where nothing has happened
+  -- If the transactions and the shared log are the same, the seen machine is.
   pub seen_same : (u : Txs Shape Op) (H : Shape × List (SharedEntry Op)) → u ≡ v → H ≡ G → ◌≡◌ {A = Seen Shape Op} (record { shape = shape; config = config_of u ids H.1 F; count = n }) w
   seen_same u H e k =
       ap (λ (z : Txs Shape Op). record { shape = shape; config = config_of z ids H.1 F; count = n }) e
@@ -515,7 +515,7 @@ start_holds {Shape} {State} {Op} o shape v ids G F a b c d =
     (subst (λ (z : List (CommittedTx Op)). Holds o shape (record { names = []; opened = [] }) [] (shape, []) z 0) (sym d)
     (record { sound = empty_sound (rules_of o shape); fine = λ x i. absurd i; shared_shape = refl; shared_short = omega arith; shared_ranged = tt; serial_ranged = tt }))))
 
--- what is seen of a machine is sound
+-- The seen configuration of a machine is sound.
 module _ {Shape State Op Undo : Type 0} (o : Object Shape State Op Undo) (v w : Seen Shape Op) (same : v ≡ w) where
   -- A machine that is seen the same has a sound configuration if the other has.
   pub seen_sound : Sound (rules_of o v.shape) v.config → Sound (rules_of o w.shape) w.config
@@ -525,6 +525,6 @@ module _ {Shape State Op Undo : Type 0} (o : Object Shape State Op Undo) (v w : 
   pub seen_allowed : Sound (rules_of o v.shape) v.config → IsAllowed o w.shape (serial_ops w.config.done)
   seen_allowed s = serial_allowed o w.shape w.config (seen_sound s)
 
-  -- The serial run of a machine is ranged if it is so as the machine is seen.
+  -- The serial run of a machine is ranged if that of the equal seen machine is.
   pub seen_ranged : AllRanged o (serial_ops v.config.done) → AllRanged o (serial_ops w.config.done)
   seen_ranged s = subst (λ (z : Seen Shape Op). AllRanged o (serial_ops z.config.done)) same s

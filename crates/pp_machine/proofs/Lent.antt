@@ -11,11 +11,11 @@ use Rattle.pp_machine.specs.declared.machine.Parts.{Parts}
 use Rattle.pp_machine.proofs.Opened.{holds_local, rest}
 
 module _ {S Shape State Op Undo Gap : Type 0} where
-  -- what is seen of a machine with these parts
+  -- The seen machine with these parts.
   abbrev pub seen_of : Parts S Shape State Op Undo Gap → Seen Shape Op
   seen_of p = record { shape = p.shape; config = config_of p.transactions p.ids p.shared.1 p.committed; count = p.count }
 
-  -- what the parts in the box keep, those lent keep
+  -- The invariant of the parts in the box is true for the lent parts.
   pub lent_holds : (o : Object Shape State Op Undo) {p q : Parts S Shape State Op Undo Gap} → q ≡ p → Holds o p.shape p.transactions p.ids p.shared p.committed p.count → Holds o q.shape q.transactions q.ids q.shared q.committed q.count
   lent_holds o is h = subst (λ (p : Parts S Shape State Op Undo Gap). Holds o p.shape p.transactions p.ids p.shared p.committed p.count) (sym is) h
 
@@ -26,7 +26,7 @@ module _ {S Shape State Op Undo Gap : Type 0} where
   module _ (o : Object Shape State Op Undo) (q : Parts S Shape State Op Undo Gap) {w : Seen Shape Op} (same : seen_of q ≡ w)
       (h : Holds o q.shape q.transactions q.ids q.shared q.committed q.count) (t : Name) (k : Guided Shape Op)
       (is_open : Some k ≡ option_map course_of (open_at t q.transactions.opened)) (P : Seen Shape Op → Type 0) where
-    -- what is said of each machine with this local log
+    -- A fact about each machine with this local log is a fact about this machine.
     pub by_local : (l : Shape × List (LocalEntry Op)) → l ≡ k.local → ((m : Rest Shape Op) → HoldsLocal o m q.shared t l → P (seen_with m q.shared)) → P w
     by_local l is f =
         subst P same

@@ -1,4 +1,4 @@
--- What the look-ups in logs return.
+-- The results of the look-ups in logs.
 use Rattle.std.proofs.Common.{◌≡◌, ◌==◌, ℕ, true, false, not, List, Some, None, position, slice_get}
 use Rattle.std.proofs.Common.{sym, ◌∙◌, ap}
 use Rattle.std.proofs.lemmas.Bool.{eqb-true}

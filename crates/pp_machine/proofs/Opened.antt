@@ -149,7 +149,7 @@ module _ {Shape State Op Undo : Type 0} (o : Object Shape State Op Undo) (shape 
   pub open_seen : (t : Name) → is_some (option_map (λ x. x.local) (open_at t v.opened)) ≡ is_some (tx t (map tx_of v.opened))
   open_seen t = some_mapped (λ x. x.local) (open_at t v.opened) ∙ sym (some_mapped tx_of (open_at t v.opened)) ∙ ap is_some (sym (tx_is t))
 
-  -- what the log of an open transaction keeps
+  -- The operations in the local log of an open transaction fit the shape.
   pub fits_local : IsLawful o → (t : Name) (l : Shape × List (LocalEntry Op)) → HasLog t l → (p : LocalEntry Op) → In p l.1 → IsTrue (o.fits shape p.op)
   fits_local laws t l r p i = local_fits o laws shape (config_of v ids G.1 F) h.sound t _ r.is p i
 

@@ -1,4 +1,4 @@
--- If the fact of a criterion holds of a detail that reports something, the criterion is false.
+-- If the fact of a criterion is true for a detail that reports something, the criterion is false.
 use Rattle.std.proofs.Common.{◌≡◌, ◌≢◌, ℕ, zero, suc, IsTrue, List, [], ◌∷◌, ◌++◌, Option, Some}
 use Rattle.std.proofs.Common.{None, refl, sym, ap, ◌∙◌}
 use Rattle.pp_model.specs.Config.{Config, Step, Begin, App, Unapp, Push, Unpush, Pull, Unpull, Cmt}
@@ -78,6 +78,6 @@ module _ {Shape State Op Undo : Type 0} (o : Object Shape State Op Undo) (laws :
       all_against (Quit t) = against_there (tx t c.opened) _ _ (λ x h. ((λ r p. let z : (r.0 ∷ r.1) ≡ [] = sym r.2 ∙ p in cc), tt))
       all_against (Note t) = against_there (tx t c.opened) _ _ (λ x h. tt)
 
-  -- If the fact of a criterion holds for a detail that says something, the criterion is false.
+  -- If the fact of a criterion is true for a detail that reports something, the criterion is false.
   pub refutes : (c : Config Op) (step : Step Op) (n : ℕ) (detail : Detail Op) → Sound (rules_of o shape) c → HoldsAtNumber o (facts o shape c step) (suc n) detail → detail ≢ Nothing → FailsAt (criteria (rules_of o shape) c step) (suc n)
   refutes c step n detail s h told = against_at detail told (criteria (rules_of o shape) c step) (facts o shape c step) n (all_against detail told c s step) h

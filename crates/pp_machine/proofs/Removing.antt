@@ -83,7 +83,7 @@ from_place_some place [] i = omega arith
 from_place_some {Op} place (a ∷ x) zero = some_pass (λ (b : Op). place b == place a) a x (eq-eqb (place a) (place a) refl)
 from_place_some place (a ∷ x) (suc i) = from_place_some place x i
 
--- what a removal costs is at most the bound
+-- The ticks of a removal are at most the bound.
 pub within_bound : {Op : Type 0} (place : Op → ℕ) (ops : List Op) (i : ℕ) (removed : Removed) (old new : ℕ) → removal_ticks removed (from_place place ops i) old new → RemovalBound place ops i old new
 within_bound place ops i Done old new c = let some = from_place_some place ops i in let most = c.1 in (c.0, omega (arith, some, most))
 within_bound place ops i (Differs id answer) old new c = c
@@ -96,7 +96,7 @@ module _ {Shape State Op Undo : Type 0} (o : Object Shape State Op Undo) (log : 
       let e : length log.1 - 1 ≡ i = omega (arith, end) in
       but_last_is m.entry log.1 (last_at log.1 ∙ ap (slice_get log.1) e ∙ m.here)
 
-  -- what is left of an allowed log without its last entry is allowed
+  -- An allowed log without its last entry is allowed.
   front_allowed : IsAllowed o log.0 (local_ops log.1) → IsAllowed o log.0 (local_ops (remove log.1 i))
   front_allowed h =
       let e : local_ops log.1 ≡ local_ops (but_last log.1) ++ (m.entry).op ∷ [] = ap local_ops front_is ∙ map-append (λ (z : LocalEntry Op). z.op) (but_last log.1) (m.entry ∷ []) in

@@ -20,7 +20,7 @@ use Rattle.pp_machine.specs.Transactions.{Open, Txs, Kept, filled, threads_of, o
 use Rattle.pp_machine.specs.Courses.{Guided}
 use Rattle.pp_machine.specs.Transactions.{is_busy, recoursed, with_course, with_open, without_open}
 
--- what is kept when a transaction begins, and when one ends
+-- The invariant of the transactions is true after one begins.
 pub kept_more : (ns ts bs ms us : List Name) (t p : Name) → Kept ns ts bs → list_any (λ n. n =ⁿ t) ns ≡ false → list_any (λ q. q =ⁿ p) bs ≡ false → ms ≡ ns ++ t ∷ [] →
     ((q : Name) → list_any (λ z. q =ⁿ z) us ≡ cond (p =ⁿ q) true (list_any (λ z. q =ⁿ z) ts)) → Kept ms us (bs ++ p ∷ [])
 kept_more ns ts bs ms us t p k n i e u = record {
@@ -50,7 +50,7 @@ same_gone ts us p r e u q = u q ∙ ap (λ (z : Name). cond (z =ⁿ q) false (li
 pub kept_same : (ns ts bs ms cs : List Name) → Kept ns ts bs → ms ≡ ns → cs ≡ bs → Kept ms ts cs
 kept_same ns ts bs ms cs h e d = subst (λ (z : List Name). Kept z ts cs) (sym e) (subst (λ (z : List Name). Kept ns ts z) (sym d) h)
 
--- what is lent, where two functions of what is last written agree
+-- Two functions that agree on each value lend the same.
 pub lends_as : {N E D : Type 0} (n : N) {f h : E → D} → ((w : E) → f w ≡ h w) → ◌≡◌ {A = (N × (E → D)) ⊎ D} (inl (n, f)) (inl (n, h))
 lends_as n e = λ i. inl (n, λ w. e w i)
 
@@ -249,7 +249,7 @@ module _ {A Shape Op : Type 0} (f : Name → A → Open Shape Op) (named : (n : 
   absent es t h x i e =
       any_not (keys_of es) t (sym (begun_is es t) ∙ ap is_some h) (subst (λ (z : Name). In z (keys_of es)) e (in_filled es x i))
 
-  -- what is found at a name
+  -- A name without a slot has no open transaction.
   pub not_begun : (es : List (Name × Option A)) (t : Name) → lookup (λ n. t =ⁿ n) es ≡ None → open_at t (filled f es) ≡ None
   not_begun es t h = find_off t (filled f es) (absent es t h)
 
@@ -322,7 +322,7 @@ module _ {A Shape Op : Type 0} (f : Name → A → Open Shape Op) (named : (n : 
       subst (λ (z : List (Name × Option A)). Kept (keys_of z) ts (threads_of (filled f z))) (sym e)
       (subst (λ (z : List Name). Kept [] z []) (sym h) (record { names_apart = λ s t b. absurd b; busy_apart = λ s t b. absurd b; threads_are = λ p. refl }))
 
-  -- the same of the transactions as they are seen
+  -- The same for the transactions as they are seen.
   module _ (es : List (Name × Option A)) (ts : List Name) (v : Txs Shape Op) (same : ◌≡◌ {A = Txs Shape Op} (record { names = keys_of es; opened = filled f es }) v) (kept : Kept (keys_of es) ts (threads_of (filled f es))) (t : Name) where
     -- A name without a slot has no open transaction.
     pub no_log : lookup (λ n. t =ⁿ n) es ≡ None → open_at t v.opened ≡ None
@@ -427,7 +427,7 @@ module _ {A Shape Op : Type 0} (f : Name → A → Open Shape Op) (named : (n : 
     pub seen_closed : (fs : List (Name × Option A)) → lookup (λ n. t =ⁿ n) es ≡ Some None → fs ≡ set_value (λ n. t =ⁿ n) es None → ◌≡◌ {A = Txs Shape Op} (record { names = keys_of fs; opened = filled f fs }) v
     seen_closed fs k m = seen_same fs (m ∙ set_value_same (λ n. t =ⁿ n) es None k)
 
-    -- where a thread was busy for no slot
+    -- The set of busy threads after a thread that was not busy is added and taken out again.
     pub kept_back : (p : Name) (us ws : List Name) → is_busy v p ≡ false → ((q : Name) → list_any (λ z. q =ⁿ z) us ≡ cond (p =ⁿ q) true (list_any (λ z. q =ⁿ z) ts)) →
         ((q : Name) → list_any (λ z. q =ⁿ z) ws ≡ cond (p =ⁿ q) false (list_any (λ z. q =ⁿ z) us)) → (fs : List (Name × Option A)) → fs ≡ es → Kept (keys_of fs) ws (threads_of (filled f fs))
     kept_back p us ws idle come gone fs m =

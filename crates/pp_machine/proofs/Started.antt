@@ -53,7 +53,7 @@ same_config {Op} a b c d e f g h i j p q r s t =
     ∙ ap (λ (z : List (SharedEntry Op)). record { names = b; ids = d; opened = f; shared = z; done = i }) s
     ∙ ap (λ (z : List (CommittedTx Op)). record { names = b; ids = d; opened = f; shared = h; done = z }) t
 
--- A machine that was as `new` made it, and the start that it is given.
+-- A machine that was as `new` made it, and its start.
 module _ {Shape State Op Undo : Type 0} (o : Object Shape State Op Undo) (shape : Shape) (v : Txs Shape Op) (ids : List ℕ) (G : Shape × List (SharedEntry Op)) (F : List (CommittedTx Op)) (n : ℕ) (w : Seen Shape Op)
     (same : ◌≡◌ {A = Seen Shape Op} (record { shape = shape; config = config_of v ids G.1 F; count = n }) w) (empty : w.config ≡ first None) where
   was : config_of v ids G.1 F ≡ first None

@@ -1,4 +1,4 @@
--- What the parts of the start of a machine return, and what shows that a criterion of the start is false.
+-- The results of the parts of the start of a machine, and what shows that a criterion of the start is false.
 use Rattle.std.proofs.Common.{◌≡◌, ◌==◌, ◌<◌, ℕ, zero, suc, ◌+◌, Bool, true, false, cond, List}
 use Rattle.std.proofs.Common.{[], ◌∷◌, ◌++◌, map, take, drop, length, get_or, reverse, position}
 use Rattle.std.proofs.Common.{None, Some, Result, Ok, Err, IsTrue, refl, sym, ap, subst, ◌∙◌}
@@ -96,7 +96,7 @@ module _ {Op : Type 0} where
 
 -- the item at a place of the walk
 module _ {Op : Type 0} (items : List (Item Op)) (k : ℕ) where
-  -- what the walk tells from this place on
+  -- The evidence that the walk reports from this position on.
   abbrev pub told_from : Detail Op
   told_from = first_repeated (take k items) (drop k items)
 
@@ -136,7 +136,7 @@ posted_ops : {Op : Type 0} (tx : Name) (l : List (Item Op)) → shared_ops (post
 posted_ops tx [] = refl
 posted_ops {Op} tx (p ∷ l) = ap (λ (w : List Op). p.op ∷ w) (posted_ops tx l)
 
--- The log of the first items, which takes the one at a place or tells that it differs.
+-- The log of the first items. It takes the next one, or reports that it differs.
 module _ {Shape State Op Undo : Type 0} (o : Object Shape State Op Undo) (laws : IsLawful o) (shape : Shape) (tx : Name) (items : List (Item Op)) where
   module _ (k : ℕ) (p : Item Op) (lt : k < length items) (is : p ≡ get_or items k p) (log : Shape × List (SharedEntry Op)) (so_far : log ≡ (shape, posted tx (take k items))) where
     shape_is : log.0 ≡ shape
@@ -148,7 +148,7 @@ module _ {Shape State Op Undo : Type 0} (o : Object Shape State Op Undo) (laws :
     asked_at : All (IsAskedItem o shape) items → IsAskedItem o shape p
     asked_at asked = subst (IsAskedItem o shape) (sym is) (All-get_or (IsAskedItem o shape) items k p lt asked)
 
-    -- The item at a position of a start that is asked is ranged.
+    -- The item at a position of a start that meets the precondition is ranged.
     pub ranged_at : All (IsAskedItem o shape) items → IsTrue (o.ranged p.op)
     ranged_at asked = (asked_at asked).1
 
@@ -250,7 +250,7 @@ module _ {Shape State Op Undo : Type 0} (o : Object Shape State Op Undo) (laws :
       refutes z (suc zero) detail h = λ a. differs_not o (λ q. q) shape z.items h.0 h.1 h.2 a
       refutes z (suc (suc n)) detail h = h
 
-  -- The items of a start that is asked fit the shape.
+  -- The items of a start that meets the precondition fit the shape.
   pub asked_fit : (z : Start Op) → All (IsAskedItem o shape) z.items → StartFits o shape z
   asked_fit z asked p i =
       let m = in_at z.items p i in

@@ -119,7 +119,7 @@ module _ {Shape State Op Undo : Type 0} (o : Object Shape State Op Undo) (laws :
           swap_shown (λ z. is_own z.mark) (λ z. o.refuting z.op op) (λ z. z.id) ds a (place_found (stands_first o op) ds k a w here)
           ∙ ap (λ (z : List (LocalEntry Op)). first_swap (λ z. z.id) (λ z. o.refuting z.op op) (own z)) e
 
-  -- an entry of the shared log that gives way does not block
+  -- An entry of the shared log that commutes with an operation does not block it.
   gives_way : (t : Name) (op : Op) (u : SharedEntry Op) → GivesWay o t op u → blocks o t op u ≡ false
   gives_way t op u g = go u.committed (u.owner =ⁿ t) refl refl
     where

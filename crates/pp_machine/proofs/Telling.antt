@@ -134,7 +134,7 @@ module _ {Shape State Op Undo : Type 0} (o : Object Shape State Op Undo) (laws :
         differs = d.differs;
       }
 
-  -- in a list that is not allowed there is a first entry that differs, and the evidence tells it
+  -- In a list that is not allowed there is a first entry that differs, and the evidence reports it.
   abbrev pub FirstOther : {E : Type 0} → (E → Item Op) → State → List E → Detail Op → Type 0
   FirstOther item_of s l detail = (id : ℕ) × (answer : Answer) × DiffersFrom o item_of s l id answer × (detail ≡ Gives id answer)
 

@@ -1,4 +1,4 @@
--- What the tests of CMT say of a local log.
+-- The tests of CMT on a local log.
 use Rattle.std.proofs.Common.{◌≡◌, ◌==◌, ◌&&◌, ℕ, Bool, true, false, not, filter, List, [], ◌∷◌}
 use Rattle.std.proofs.Common.{Option, Some, None, find, position, slice_get, refl, sym, ◌∙◌, ap}
 use Rattle.std.proofs.Common.{subst}

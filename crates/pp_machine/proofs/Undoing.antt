@@ -1,4 +1,4 @@
--- What the steps that undo leave: UNAPP, UNPUSH and UNPULL.
+-- The state after the steps that undo: UNAPP, UNPUSH and UNPULL.
 use Rattle.std.proofs.Common.{◌≡◌, ◌==◌, ◌<◌, ◌≤◌, ◌+◌, ◌*◌, ◌-◌, ℕ, List, map, length, Option}
 use Rattle.std.proofs.Common.{Some, option_map, position, slice_get, Ok, Err, refl, sym, ap, subst, ◌∙◌}
 use Rattle.std.proofs.Common.{arith}
@@ -41,7 +41,7 @@ use Rattle.pp_machine.proofs.Removing.{differs_not, from_id_some, from_place_is,
 use Rattle.pp_machine.proofs.Removing.{last_removed, never_differs}
 use Rattle.pp_machine.proofs.Showing.{differing_shown}
 
--- what a removal that differs says is the evidence
+-- The entry and the result of a removal that differs are the evidence.
 told : {Op : Type 0} {a c : ℕ} {b d : Answer} → Differs c d ≡ Differs a b → ◌≡◌ {A = Detail Op} (Gives a b) (Gives c d)
 told {Op} {a} {c} {b} {d} e = ap (λ (z : Removed). differing z) (sym e)
   where

@@ -22,7 +22,7 @@ abbrev pub log_items : {Op : Type 0} → Option (Tx Op) → List (Item Op)
 log_items None = []
 log_items (Some x) = map item x.local
 
--- What a step costs at most, whatever it returns. A removal may also take back what it applied, and
+-- The most ticks of a step, whatever it returns. A removal may also take back what it applied, and
 -- apply all as they were.
 abbrev pub at_most : {Op : Type 0} → (Op → ℕ) → Config Op → Step Op → ℕ
 at_most place c (Begin t p b) = 0
@@ -36,8 +36,8 @@ at_most place c (Cmt t) = 0
 at_most place c (Quit t) = 0
 at_most place c (Note t) = 0
 
--- What a step costs that is not done: nothing, but for UNPUSH and UNPULL, which have a
--- bound. No tick is taken back.
+-- The ticks of a step that is not done: none, except for UNPUSH and UNPULL, which have a bound. No
+-- tick is taken back.
 abbrev pub CostsInVain : {Op : Type 0} → (Op → ℕ) → Config Op → Step Op → ℕ → ℕ → Type 0
 CostsInVain place c (Begin t p b) old new = new ≡ old
 CostsInVain place c (App t id op) old new = new ≡ old
@@ -52,9 +52,9 @@ CostsInVain place c (Cmt t) old new = new ≡ old
 CostsInVain place c (Quit t) old new = new ≡ old
 CostsInVain place c (Note t) old new = new ≡ old
 
--- What a step costs that is done: exactly, but for UNPUSH and UNPULL, which have a bound. A removal
--- takes back the operations of its place from the entry on, and applies all but that one again, or
--- it takes that one back alone.
+-- The ticks of a step that is done: exactly, except for UNPUSH and UNPULL, which have a bound. A
+-- removal takes back the operations of its place from the entry on, and applies all but that one
+-- again, or it takes that one back alone.
 abbrev pub CostsDone : {Op : Type 0} → (Op → ℕ) → Config Op → Step Op → ℕ → ℕ → Type 0
 CostsDone place c (Begin t p b) old new = new ≡ old
 CostsDone place c (App t id op) old new = new ≡ old + 1
@@ -69,13 +69,13 @@ CostsDone place c (Cmt t) old new = new ≡ old
 CostsDone place c (Quit t) old new = new ≡ old
 CostsDone place c (Note t) old new = new ≡ old
 
--- What a step costs by its outcome.
+-- The ticks of a step by its outcome.
 abbrev pub CostsBy : {Op : Type 0} → (Op → ℕ) → Config Op → Step Op → Outcome Op → ℕ →
     ℕ → Type 0
 CostsBy place c step Done old new = CostsDone place c step old new
 CostsBy place c step (False n detail) old new = CostsInVain place c step old new
 
--- What a step costs by what it returns.
+-- The ticks of a step by its result.
 abbrev pub Costs : {Shape Op A E : Type 0} → (Op → ℕ) → Seen Shape Op → Step Op →
     Result (A × Outcome Op) E → ℕ → ℕ → Type 0
 Costs place v step (Ok r) old new = CostsBy place v.config step r.1 old new

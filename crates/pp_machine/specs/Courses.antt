@@ -8,7 +8,7 @@ use Rattle.pp_model.specs.Body.{Begins}
 use Rattle.pp_model.specs.Config.{is_own, own_items}
 use Rattle.pp_kind.specs.Object.{Object}
 
--- The tree of a body, and the local log beside it with the log's shape.
+-- The tree of a body, the local log, and the log's shape.
 pub record Guided (Shape Op : Type 0) : Type 0 where
   pub body : Option Tree
   pub local : Shape × List (LocalEntry Op)

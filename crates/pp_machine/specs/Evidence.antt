@@ -22,12 +22,13 @@ abbrev pub first_entry : {Op : Type 0} → List (LocalEntry Op) → Detail Op
 first_entry [] = Nothing
 first_entry (e ∷ l) = Entry e.id
 
--- The lists that refute the pair of the entry of this id, or else what the other entries give.
+-- The lists that refute the pair of the entry of this id, or else the evidence from the other
+-- entries.
 abbrev pub swap_or : {Op : Type 0} → ℕ → Option (List Op × List Op) → Detail Op → Detail Op
 swap_or id None others = others
 swap_or id (Some lists) others = Swap id (record { before = lists.0; after = lists.1 })
 
--- Of these entries the first whose pair does not swap, with the lists that refute the pair.
+-- The first of these entries whose pair does not swap, with the lists that refute the pair.
 abbrev pub first_swap : {Op E : Type 0} → (E → ℕ) → (E → Option (List Op × List Op)) → List E →
     Detail Op
 first_swap id_of refuting [] = Nothing
@@ -92,7 +93,7 @@ module _ {Shape State Op Undo : Type 0} (o : Object Shape State Op Undo) (shape 
   abbrev pub gives_behind : ℕ → List Op → Op → Detail Op
   gives_behind id ops op = Gives id (o.gives (state_after o shape ops) op)
 
-  -- The evidence of each criterion of a step where it is the first false one, in the order of the
+  -- The evidence of each criterion of a step if it is the first false one, in the order of the
   -- criteria.
   abbrev pub evidences : Config Op → Step Op → List (Detail Op)
   evidences c (Begin t p b) = Nothing ∷ Nothing ∷ []

@@ -23,8 +23,8 @@ pub record Refuses {Shape State Op Undo : Type 0} (o : Object Shape State Op Und
   pub not_zero : 0 < refusal.criterion
   pub is_evidence : refusal.detail ≡ evidence o v.shape v.config step refusal.criterion
 
--- What judging a step returns: what its effect needs if each criterion holds, and else why the step
--- is refused.
+-- The result of judging a step: what its effect needs if each criterion is true, and otherwise why
+-- the step is refused.
 abbrev pub Judges : {Shape State Op Undo A : Type 0} → Object Shape State Op Undo → Seen Shape Op →
     Step Op → (A → Type 0) → Result A (Refusal Op) → Type 0
 Judges o v step Needed (Ok found) = Meets (rules_of o v.shape) v.config step × Needed found
@@ -90,8 +90,8 @@ JudgesUnpull {Shape} {State} {Op} o v t id (Ok i) =
     (e : LocalEntry Op) × IsAt v.config t id Pulled i e
 JudgesUnpull o v t id (Err refusal) = Refuses o v (Unpull t id) refusal
 
--- What judging hands on if all criteria are true: the position of the entry for PUSH and UNAPP, the
--- entry for PULL.
+-- What judging passes on to the effect if all criteria are true: the position of the entry for PUSH
+-- and UNAPP, the entry for PULL.
 abbrev pub JudgesPush : {Shape State Op Undo : Type 0} → Object Shape State Op Undo →
     Seen Shape Op → Name → ℕ →
     Result (ℕ × LocalEntry Op) (Refusal Op) → Type 0

@@ -41,7 +41,7 @@ pub record IsFine {Shape State Op Undo : Type 0} (o : Object Shape State Op Undo
   pub short : length x.local.1 ≤ count
   pub ranged : AllRanged o (local_ops x.local.1)
 
--- What each machine keeps: a sound configuration, and logs of its shape that are ranged and not
+-- The invariant of a machine: a sound configuration, and logs of its shape that are ranged and not
 -- long. A run may begin with up to 256 operations in the shared log.
 pub record Holds {Shape State Op Undo : Type 0} (o : Object Shape State Op Undo) (shape : Shape)
     (v : Txs Shape Op) (ids : List ℕ) (shared : Shape × List (SharedEntry Op))

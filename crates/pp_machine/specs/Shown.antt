@@ -22,7 +22,7 @@ use Rattle.pp_machine.specs.declared.detail.Detail.TheVariants.{Nothing, Entry, 
 use Rattle.pp_machine.specs.declared.machine.Outcome.{Outcome}
 use Rattle.pp_machine.specs.declared.machine.Outcome.TheVariants.{Done, False}
 
--- The fact of this place, from 1, is false.
+-- The fact with this number, from 1, is true for the evidence.
 abbrev pub FailsAt : List (Type 0) → ℕ → Type 0
 FailsAt [] n = ⊥
 FailsAt (p ∷ ps) zero = ⊥
@@ -60,8 +60,8 @@ module _ {Shape State Op Undo : Type 0} (o : Object Shape State Op Undo) where
   if_there None f = TellsNothing ∷ []
   if_there (Some x) f = TellsNothing ∷ f x
 
-  -- What the evidence of each criterion of a step shows, in the order of the criteria. An entry
-  -- that it reports is the first one that breaks the criterion.
+  -- The fact that the evidence of each criterion of a step shows, in the order of the criteria. An
+  -- entry that it reports is the first one that violates the criterion.
   abbrev pub facts : Shape → Config Op → Step Op → List (Detail Op → Type 0)
   facts shape c (Begin t p b) = TellsNothing ∷ TellsNothing ∷ []
   facts shape c (App t id op) = if_there (tx t c.opened) λ x.
@@ -116,7 +116,7 @@ module _ {Shape State Op Undo : Type 0} (o : Object Shape State Op Undo) where
       ∷ []
   facts shape c (Note t) = if_there (tx t c.opened) λ x. []
 
-  -- The fact of this place, from 1, holds of the evidence.
+  -- The fact with this number, from 1, is true for the evidence.
   abbrev pub HoldsAtNumber : List (Detail Op → Type 0) → ℕ → Detail Op → Type 0
   HoldsAtNumber [] n detail = ⊥
   HoldsAtNumber (P ∷ Ps) zero detail = ⊥
@@ -126,11 +126,12 @@ module _ {Shape State Op Undo : Type 0} (o : Object Shape State Op Undo) where
   -- The evidence of the first false criterion shows that it is false, and reports operations of the
   -- objects alone.
   pub record EvidenceLaw (shape : Shape) : Type 0 where
-    -- the fact of the first false criterion holds of its evidence
+    -- the fact of the first false criterion is true for its evidence
     pub shows : (c : Config Op) (step : Step Op) (n : ℕ) → Sound (rules_of o shape) c
         → IsAsked o shape step → Breaks (rules_of o shape) c step (suc n)
         → HoldsAtNumber (facts shape c step) (suc n) (evidence o shape c step (suc n))
-    -- if the fact of a criterion holds of a detail that reports something, the criterion is false
+    -- if the fact of a criterion is true for a detail that reports something, the criterion is
+    -- false
     pub refutes : (c : Config Op) (step : Step Op) (n : ℕ) (detail : Detail Op)
         → Sound (rules_of o shape) c
         → HoldsAtNumber (facts shape c step) (suc n) detail → detail ≢ Nothing
@@ -139,7 +140,7 @@ module _ {Shape State Op Undo : Type 0} (o : Object Shape State Op Undo) where
     pub fits : (c : Config Op) (step : Step Op) (n : ℕ) → Sound (rules_of o shape) c
         → Fits o shape (evidence o shape c step n)
 
-  -- What the evidence of a step that is refused shows, and that it reports operations of the
+  -- The fact that the evidence of a refused step shows, and that it reports operations of the
   -- objects.
   abbrev pub IsShown : Seen Shape Op → Step Op → Outcome Op → Type 0
   IsShown old step Done = Unit {0}

@@ -1,4 +1,4 @@
--- Proof machinery: the machine that the judging of a step is about, where it is given parts of it.
+-- Proof machinery: the machine that a step is judged on, if the judging function gets parts of it.
 use Rattle.std.specs.Prelude.{◌≡◌, ℕ, List, Some, option_map}
 use Rattle.pp_core.specs.declared.entry.CommittedTx.{CommittedTx}
 use Rattle.pp_core.specs.declared.entry.SharedEntry.{SharedEntry}
@@ -9,7 +9,7 @@ use Rattle.pp_machine.specs.Courses.{Guided}
 use Rattle.pp_machine.specs.Machines.{Holds, Seen, config_of}
 use Rattle.pp_machine.specs.Transactions.{Txs, course_of, open_at}
 
--- What a machine holds beside its shared log.
+-- The parts of a machine other than its shared log.
 pub record Rest (Shape Op : Type 0) : Type 0 where
   pub shape : Shape
   pub txs : Txs Shape Op
@@ -17,7 +17,7 @@ pub record Rest (Shape Op : Type 0) : Type 0 where
   pub done : List (CommittedTx Op)
   pub count : ℕ
 
--- what is seen of the machine with this shared log
+-- the seen machine with this shared log
 abbrev pub seen_with : {Shape Op : Type 0} → Rest Shape Op → Shape × List (SharedEntry Op) →
     Seen Shape Op
 seen_with m shared =
@@ -46,7 +46,7 @@ abbrev pub IsOfMachine : {Shape State Op Undo : Type 0} → Object Shape State O
 IsOfMachine {Shape} {State} {Op} o shared t local =
     (m : Rest Shape Op) × HoldsLocal o m shared t local
 
--- This holds of each machine and transaction with this local log.
+-- This is true for each machine and transaction with this local log.
 abbrev pub OfEach : {Shape State Op Undo : Type 0} → Object Shape State Op Undo →
     Shape × List (LocalEntry Op) → (Seen Shape Op → Name → Type 0) →
     Type 0

@@ -27,7 +27,7 @@ module _ {Shape State Op Undo : Type 0} (o : Object Shape State Op Undo) (shape 
   abbrev pub IsAskedItem : Item Op → Type 0
   IsAskedItem p = IsTrue (o.fits shape p.op) × IsTrue (o.ranged p.op)
 
-  -- What the evidence of each criterion of the start shows, in their order.
+  -- The fact that the evidence of each criterion of the start shows, in their order.
   abbrev pub start_facts : Start Op → List (Detail Op → Type 0)
   start_facts z = TellsFirstRepeated z.items ∷ TellsFirstOther o (λ p. p) shape z.items ∷ []
 
@@ -37,11 +37,11 @@ module _ {Shape State Op Undo : Type 0} (o : Object Shape State Op Undo) (shape 
 
   -- The evidence of the first false criterion of a start shows that it is false.
   pub record StartEvidenceLaw : Type 0 where
-    -- the fact of the first false criterion holds of its evidence
+    -- the fact of the first false criterion is true for its evidence
     pub shows : (z : Start Op) (n : ℕ) → StartFits z
         → StartBreaks (rules_of o shape) (Some z) (suc n)
         → HoldsAtNumber o (start_facts z) (suc n) (start_evidence o shape z (suc n))
-    -- if the fact of a criterion holds of a detail, the criterion is false
+    -- if the fact of a criterion is true for a detail, the criterion is false
     pub refutes : (z : Start Op) (n : ℕ) (detail : Detail Op)
         → HoldsAtNumber o (start_facts z) (suc n) detail
         → FailsAt (start_criteria (rules_of o shape) (Some z)) (suc n)
@@ -59,7 +59,7 @@ module _ {Shape State Op Undo : Type 0} (o : Object Shape State Op Undo) where
       StartBreaks (rules_of o old.shape) (Some z) n × (0 < n) × (new ≡ old)
       × (detail ≡ start_evidence o old.shape z n)
 
-  -- What the evidence of a start that is refused shows.
+  -- The fact that the evidence of a refused start shows.
   abbrev pub IsStartShown : Seen Shape Op → Start Op → Outcome Op → Type 0
   IsStartShown old z Done = Unit {0}
   IsStartShown old z (False n detail) =

@@ -37,8 +37,8 @@ module _ {Shape State Op Undo : Type 0} (o : Object Shape State Op Undo) (shape 
     pub not_zero : 0 < refusal.criterion
     pub is_evidence : refusal.detail ≡ start_evidence o shape z refusal.criterion
 
-  -- What judging a start returns: the log of its items if each criterion holds, and else why it is
-  -- refused.
+  -- The result of judging a start: the log of its items if each criterion is true, and otherwise
+  -- why it is refused.
   abbrev pub JudgesStart : Start Op → Result (Shape × List (SharedEntry Op)) (Refusal Op) → Type 0
   JudgesStart z (Ok log) =
       StartMeets (rules_of o shape) (Some z) × (log ≡ (shape, posted z.tx z.items))

@@ -12,14 +12,14 @@ use Rattle.pp_machine.specs.declared.detail.Detail.TheVariants.{Nothing, Entry}
 abbrev pub has_id : {Op : Type 0} → ℕ → List (Item Op) → Bool
 has_id id items = list_any (λ p. p.id == id) items
 
--- Of these items, which are after others, the first whose id is before it.
+-- The first of these items, which are after others, whose id occurs before it.
 abbrev pub first_repeated : {Op : Type 0} → List (Item Op) → List (Item Op) → Detail Op
 first_repeated before [] = Nothing
 first_repeated before (p ∷ ps) =
     cond (has_id p.id before) (Entry p.id) (first_repeated (before ++ p ∷ []) ps)
 
 module _ {Shape State Op Undo : Type 0} (o : Object Shape State Op Undo) (shape : Shape) where
-  -- The evidence of each criterion of the start where it is the first false one, in their order.
+  -- The evidence of each criterion of the start if it is the first false one, in their order.
   abbrev pub start_evidences : Start Op → List (Detail Op)
   start_evidences z =
       first_repeated [] z.items ∷ first_differing o (λ p. p) (o.start shape) z.items ∷ []

@@ -11,8 +11,8 @@ use Rattle.pp_machine.specs.declared.machine.Outcome.{Outcome}
 use Rattle.pp_machine.specs.declared.machine.Outcome.TheVariants.{Done, False}
 use Rattle.pp_machine.specs.Machines.{Seen, stepped}
 
--- What a step asks: a body within the limits, and an operation of the shape, in the range of
--- records.
+-- The precondition of a step: a body within the limits, and an operation of the shape, in the range
+-- of records.
 abbrev pub IsAsked : {Shape State Op Undo : Type 0} → Object Shape State Op Undo → Shape → Step Op →
     Type 0
 IsAsked o shape (Begin t p b) = IsWithinLimits b
@@ -36,7 +36,7 @@ Stepped o old step (False n detail) new =
     Breaks (rules_of o old.shape) old.config step n × (0 < n) × (new ≡ old)
     × (detail ≡ evidence o old.shape old.config step n)
 
--- What doing a step returns, unless memory ran out: the machine after the step, and its outcome.
+-- The result of doing a step, unless memory ran out: the machine after the step, and its outcome.
 abbrev pub Does : {Shape State Op Undo E : Type 0} → Object Shape State Op Undo → Seen Shape Op →
     Step Op →
     Result (Seen Shape Op × Outcome Op) E → Type 0

@@ -71,8 +71,8 @@ abbrev pub open_of : {Shape Op : Type 0} → Name → Name → Option Tree →
     Shape × List (LocalEntry Op) → Open Shape Op
 open_of n p b l = record { name = n; thread = p; body = b; local = l }
 
--- What the transactions keep: distinct names, and the set of the busy threads, which are distinct
--- too.
+-- The invariant of the transactions: distinct names, and the set of the busy threads, which are
+-- distinct too.
 pub record Kept (names threads busy : List Name) : Type 0 where
   pub names_apart : (s t : Name) → Before s t names → s ≢ t
   pub busy_apart : (p q : Name) → Before p q busy → p ≢ q

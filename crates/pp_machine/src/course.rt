@@ -74,7 +74,7 @@ fn append_own<S: Parted, L: Ledger>(
     appended
 }
 
-/// The walk, with its last call given back if that is asked.
+/// The walk, with its last call taken back if required.
 fn given_back(walk: Walk, asked: bool) -> Walk
     requires { IsTrue asked → MayGoBack walk }
     ensures body { result.body ≡ walk.body }

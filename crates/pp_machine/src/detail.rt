@@ -42,10 +42,10 @@ impl<O: Drop> BoxedContext<O> {
     }
 }
 
-/// What shows that a criterion is false.
+/// The evidence that a criterion is false.
 #[derive(Drop)]
 pub enum Detail<O> {
-    /// Nothing beside the number of the criterion.
+    /// Nothing but the number of the criterion.
     Nothing,
     /// The first entry that breaks it.
     Entry { id: u32 },
@@ -62,7 +62,7 @@ pub struct Refusal<O> {
     pub detail: Detail<O>,
 }
 
-/// What judging a step returns, if it may take memory.
+/// The result of judging a step, if it may take memory.
 pub type Judged<A, O> = Result<Result<A, Refusal<O>>, OutOfMemory>;
 
 /// The refusal by a criterion that has no evidence.

@@ -1,4 +1,4 @@
-//! What the machine looks up in logs.
+//! The look-ups of the machine in logs.
 ghost use Rattle.std.specs.Prelude.{◌≡◌, ◌<◌, length, ◌==◌, ◌&&◌, not, Some, None};
 ghost use Rattle.std.specs.Prelude.{position, slice_get, option_map, MatchOption, IfOk, IfSome};
 ghost use Rattle.pp_model.specs.Config.{is_mark, is_own, last, own_items, at_mark, of_other};

@@ -20,8 +20,8 @@ pub fn written_law<S: Spec>()
     ensures { (shape : S.Shape) → WrittenLaw (rules_of S.object shape) }
 {}
 
-/// What is allowed after the shared log is allowed after the serial run and the uncommitted
-/// entries.
+/// After the serial run and the uncommitted entries, all is allowed that is allowed after the
+/// shared log.
 pub fn serial_law<S: Spec>()
     ensures { (shape : S.Shape) → SerialLaw (rules_of S.object shape) }
 {}
@@ -52,16 +52,16 @@ pub fn verdict_law<S: Spec>()
     ensures { (shape : S.Shape) → VerdictLaw (rules_of S.object shape) }
 {}
 
-/// What is shown about the evidence of each criterion is true for the evidence of the first false
-/// one. If it is true for a detail that reports something, the criterion is false. Evidence reports
+/// The fact of the first false criterion of a step is true for its evidence. If the fact of a
+/// criterion is true for a detail that reports something, the criterion is false. Evidence reports
 /// operations of the objects alone.
 pub fn evidence_law<S: Spec>()
     ensures { (shape : S.Shape) → EvidenceLaw S.object shape }
 {}
 
-/// What is shown about the evidence of each criterion of a start is true for the evidence of the
-/// first false one. If it is true for a detail, the criterion is false. The evidence of a start
-/// reports no operation.
+/// The fact of the first false criterion of a start is true for its evidence. If the fact of a
+/// criterion is true for a detail, the criterion is false. The evidence of a start reports no
+/// operation.
 pub fn start_evidence_law<S: Spec>()
     ensures { (shape : S.Shape) → StartEvidenceLaw S.object shape }
 {}

@@ -34,7 +34,7 @@ use std::alloc::Global;
 use std::marker::Model;
 use std::sync::ledger::Ledger;
 
-/// What a step did.
+/// The outcome of a step.
 #[derive(Drop)]
 pub enum Outcome<O> {
     /// Each criterion held, and the effect has happened.

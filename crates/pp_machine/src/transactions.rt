@@ -61,7 +61,7 @@ impl<S: Parted> Model for Transactions<S> {
         a.slots.entries)) };
 }
 
-/// Gives a name that has no slot this one.
+/// Sets the slot of a name that has none.
 fn put<T: Drop>(
     slots: &mut IndexMap<Name, Option<Box<OpenTx<T>>>>,
     tx: &Name,
@@ -75,7 +75,7 @@ fn put<T: Drop>(
     Ok(())
 }
 
-/// Empties a slot, and gives the thread of the transaction in it.
+/// Empties a slot, and returns the thread of the transaction in it.
 fn empty<T: Drop>(slot: &mut Option<Box<OpenTx<T>>>) -> Option<Name>
     ensures thread { result ≡ option_map (λ t. t.value.thread) slot.old }
     ensures emptied { slot.new ≡ None }

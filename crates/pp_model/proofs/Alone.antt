@@ -74,7 +74,7 @@ tx_one {Op} t p b l = ap (λ (z : Bool). cond z (Some (the_tx t p b l)) None) (e
 on_one : {Op : Type 0} (t p : Name) (b : Option Tree) (l : List (LocalEntry Op)) (f : List (LocalEntry Op) → List (LocalEntry Op)) → on_log t f (the_tx t p b l ∷ []) ≡ the_tx t p b (f l) ∷ []
 on_one {Op} t p b l f = ap (λ (w : Tx Op). w ∷ []) (at_tx t f (the_tx t p b l) refl)
 
--- what a transaction alone meets: its own items A after the committed entries G
+-- The criteria that a transaction which runs alone meets: its own items A after the committed entries G.
 pub record MayRunAlone {Op State : Type 0} (O : Object Op State) (t : Name) (b : Option Tree) (I : List ℕ) (G : List (SharedEntry Op)) (A : List (Item Op)) : Type 0 where
   pub settled : (g : SharedEntry Op) → In g G → g.committed ≡ true
   pub others : (g : SharedEntry Op) → In g G → g.owner ≢ t
@@ -130,7 +130,7 @@ pulls {Op} O t p b N I F G A m (g ∷ H) K e rest r =
         ∙ append_assoc (shared_ops K) (g.op ∷ shared_ops H) (ops A) ∙ sym (append_assoc (shared_ops K) (g.op ∷ []) (shared_ops H ++ ops A)))
         m.allowed)
 
--- What is in its log, and in G, when it has applied and pushed A.
+-- The local log of a transaction that has applied and pushed the items A.
 abbrev pub log_of : {Op : Type 0} → Name → List (SharedEntry Op) → List (Item Op) → List (LocalEntry Op)
 log_of t G A = map pull_entry G ++ map (push_entry t) A
 
@@ -352,7 +352,7 @@ one {Op} O p a N I F G m n rest r =
     ∙ sym (append_assoc (map (λ (q : Item Op). Pull t q.id) (map shared_item G)) (own_steps t A ++ Cmt t ∷ []) rest) in
     ((n, ((λ x i. absurd i), refl)), subst (λ (w : List (Step Op)). RunsFrom O (busy (t ∷ N) I (the_tx t p a.body []) G F) w) e r4)
 
--- what all of them meet
+-- The criteria that all attempts meet, each run alone.
 pub record AllMeet {Op State : Type 0} (O : Object Op State) (N : List Name) (I : List ℕ) (G : List (SharedEntry Op)) (l : List (Attempt Op)) : Type 0 where
   pub settled : (g : SharedEntry Op) → In g G → g.committed ≡ true
   pub owners : (g : SharedEntry Op) → In g G → In g.owner N

@@ -55,7 +55,7 @@ pub ops_committed : {Op : Type 0} (t : Name) (G : List (SharedEntry Op)) → sha
 ops_committed t [] = refl
 ops_committed {Op} t (g ∷ G) = ap (λ (o : Op). o ∷ shared_ops (commit_all t G)) (commit_keeps_rest t g).2 ∙ ap (λ (w : List Op). g.op ∷ w) (ops_committed t G)
 
--- What is in the marked log was there.
+-- An id in the committed shared log was in it before.
 stood : {Op : Type 0} (t : Name) (i : ℕ) (G : List (SharedEntry Op)) → Stands i (commit_all t G) → Stands i G
 stood {Op} t i G h = let m = from_map (commit t) h.0 G h.1 in (m.0, m.1, sym (commit_keeps_rest t m.0).0 ∙ ap (λ (w : SharedEntry Op). w.id) (sym m.2) ∙ h.2)
 

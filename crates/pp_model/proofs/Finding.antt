@@ -1,4 +1,4 @@
--- What tests, places and lookups say of a list.
+-- Tests, positions and lookups in lists.
 use Rattle.std.proofs.Common.{◌≡◌, ◌↔◌, IsTrue, ℕ, zero, suc, ◌<◌, ◌≤◌, Bool, true, false, cond}
 use Rattle.std.proofs.Common.{◌||◌, List, [], ◌∷◌, ◌++◌, length, Option, Some, None, position, nat_lt, find}
 use Rattle.std.proofs.Common.{slice_get, reverse, refl, sym, ◌∙◌, ap, subst, arith, inl, inr}
@@ -12,7 +12,7 @@ use Rattle.pp_model.specs.Lists.{In}
 use Rattle.pp_model.proofs.Lists.{in_cases, in_left, in_right}
 use Rattle.pp_model.proofs.Logs.{found}
 
--- What is at a place.
+-- An element at a position of a list is in the list.
 pub stands_in : {A : Type 0} (x : List A) (i : ℕ) (a : A) → slice_get x i ≡ Some a → In a x
 stands_in [] i a h = cc
 stands_in (b ∷ x) zero a h = inl cc

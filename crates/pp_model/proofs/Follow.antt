@@ -92,7 +92,7 @@ on_one {Op} O h ss c a s r k none nb x ix nx f ids G own drops =
     (λ w i n. bodies_quiet w.name ss a (nb w.name) ∙ r.bodies w i) (λ w i n. bodies_quiet w.name ss a (nb w.name) ∙ r.bodies w i))
     drops
 
--- where the step drops nothing
+-- If a step drops nothing, the dropped ids stay the same.
 same_drops : {Op State : Type 0} (O : Object Op State) (h : Option (Start Op)) (ss : List (Step Op)) (c : Config Op) (a : Step Op) → Traced O h ss c → ((u : Name) → unapplied_ids u (a ∷ []) ≡ []) → (t : Name) (i : ℕ) → In i (unapplied_ids t (ss ++ a ∷ [])) → In i c.ids
 same_drops O h ss c a r n t i j = r.drops t i (subst (λ (w : List ℕ). In i w) (dropped-append t ss (a ∷ []) ∙ ap (λ (w : List ℕ). unapplied_ids t ss ++ w) (n t) ∙ append-nil (unapplied_ids t ss)) j)
 

@@ -56,7 +56,7 @@ marked_other id m [] h = refl
 marked_other {Op} id m (e ∷ l) h =
     ap (λ (w : LocalEntry Op). w ∷ set_mark id m l) (elim (mark_cases id m e) [ inl r ↦ absurd (h e (inl refl) r.0) | inr r ↦ r.1 ]) ∙ ap (λ (w : List (LocalEntry Op)). e ∷ w) (marked_other id m l (λ a i. h a (inr i)))
 
--- the own items stay, where the entry of this id is own and stays so
+-- The own items stay if the entry of this id is own, and the new mark is.
 pub own_marked : {Op : Type 0} (id : ℕ) (m : Mark) → is_own m ≡ true → (l : List (LocalEntry Op)) → ((e : LocalEntry Op) → In e l → e.id ≡ id → is_own e.mark ≡ true) → own_items (set_mark id m l) ≡ own_items l
 own_marked id m k [] h = refl
 own_marked {Op} id m k (e ∷ l) h = elim (mark_cases id m e) [
@@ -74,7 +74,7 @@ own_marked {Op} id m k (e ∷ l) h = elim (mark_cases id m e) [
     map_cond true e w = refl
     map_cond false e w = refl
 
--- what a transaction with another mark at one own entry keeps by itself
+-- The conditions under which a transaction with another mark at one own entry keeps a configuration sound.
 pub record IsRemarked {Op State : Type 0} (O : Object Op State) (c : Config Op) (f : List (LocalEntry Op) → List (LocalEntry Op)) (x : Tx Op) : Type 0 where
   pub marks : (e : LocalEntry Op) → In e (f x.local) → OwnedAsMarked x.name e
   pub distinct : (e g : LocalEntry Op) → Before e g (f x.local) → e.id ≢ g.id
@@ -144,7 +144,7 @@ standing {Op} O c s x i e j o g k n false u =
 pub stands_pushed : {Op State : Type 0} (O : Object Op State) (c : Config Op) → Sound O c → (x : Tx Op) → In x c.opened → (e : LocalEntry Op) → In e x.local → is_own e.mark ≡ true → Stands e.id c.shared → e.mark ≡ Pushed
 stands_pushed O c s x i e j o h = standing O c s x i e j o h.0 h.1 h.2 (h.0).committed refl
 
--- What is in a longer log.
+-- An id in a shared log is in the log with one more entry.
 stands_wider : {Op : Type 0} (i : ℕ) (G : List (SharedEntry Op)) (g : SharedEntry Op) → Stands i G → Stands i (G ++ g ∷ [])
 stands_wider i G g h = (h.0, in_left h.0 G (g ∷ []) h.1, h.2)
 
@@ -197,8 +197,7 @@ order_unpushed {Op} O G id xs first h a b i j k = elim (cases_eq a.id id) [
     was : (i : ℕ) → Stands i (without_shared id G) → Stands i G
     was i h = (h.0, (from_filter test h.0 G h.1).0, h.2)
 
--- what both steps keep of the entry's own transaction and of the others: an id that x owns is owned
--- by no other
+-- An id that x owns is owned by no other transaction.
 pub elsewhere : {Op State : Type 0} (O : Object Op State) (c : Config Op) → Sound O c → (x : Tx Op) → In x c.opened → (e : LocalEntry Op) → In e x.local → is_own e.mark ≡ true →
     (y : Tx Op) → In y c.opened → y.name ≢ x.name → (p : Item Op) → In p (own_items y.local) → p.id ≢ e.id
 elsewhere O c s x i e j o y k n p q z = n (s.one_owner y.name x.name p (item e) (inl (y, k, refl, q)) (inl (x, i, refl, in_own x.local e j o)) z)

@@ -19,7 +19,7 @@ use Rattle.pp_model.proofs.Lists.{before_from_joined, by_key, not_both}
 use Rattle.pp_model.proofs.Permute.{permuted}
 use Rattle.pp_model.proofs.Parted.{parted}
 
--- what the order of a shared log and of the committed transactions rests on
+-- The facts on which the commit order rests.
 pub record IsOrdered {Op State : Type 0} (O : Object Op State) (G : List (SharedEntry Op)) (D : List (CommittedTx Op)) : Type 0 where
   pub ids : (g h : SharedEntry Op) → Before g h G → g.id ≡ h.id → ⊥
   pub names : (d e : CommittedTx Op) → Before d e D → d.name ≢ e.name

@@ -1,5 +1,5 @@
 -- Meaning: the seven parts of a sound configuration, word by word. An entry of a local log is own
--- where its owner is the transaction.
+-- if its owner is the transaction.
 use Rattle.std.specs.Prelude.{◌++◌, ◌≡◌, ◌≢◌, ◌⊎◌, ◌↔◌, List, map, true, false, ℕ, []}
 use Rattle.pp_model.specs.Body.{Begins}
 use Rattle.pp_model.specs.Config.{Config, CommittedTx, LocalEntry, Pulled, Pushed, SharedEntry, Tx}

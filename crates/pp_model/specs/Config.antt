@@ -34,7 +34,7 @@ pub record Config (Op : Type 0) : Type 0 where
   -- in commit order
   pub done : List (CommittedTx Op)
 
--- What a header gives: the transaction that is committed before the first step, if there is one.
+-- The start of a header: the transaction that is committed before the first step, if there is one.
 pub record Start (Op : Type 0) : Type 0 where
   pub tx : Name
   pub items : List (Item Op)

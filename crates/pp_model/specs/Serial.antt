@@ -14,7 +14,7 @@ abbrev pub has_id : ℕ → List ℕ → Bool
 has_id i [] = false
 has_id i (j ∷ js) = (j == i) || has_id i js
 
--- what t's APP steps apply
+-- the items that t's APP steps apply
 abbrev pub applied_items : {Op : Type 0} → Name → List (Step Op) → List (Item Op)
 applied_items t [] = []
 applied_items t (App u id op ∷ ss) =
@@ -110,7 +110,7 @@ module _ {Op State : Type 0} (O : Object Op State) where
   AtomicRun s (a ∷ l) s2 =
       (m : State) × Atomic s a.body a.items m × AtomicRun m l s2
 
-  -- What holds after an accepted run.
+  -- The facts about an accepted run.
   pub record Simulated (h : Option (Start Op))
       (ss : List (Step Op)) : Type 0 where
     pub done : (after h ss).done ≡ map committed_tx (attempts h ss)

@@ -100,8 +100,8 @@ module _ {Op State : Type 0} (O : Object Op State) where
     pub start : (h : Option (Start Op)) → StartMeets O h → Sound (first h)
     pub step : (c : Config Op) (a : Step Op) → Sound c → Meets O c a → Sound (then c a)
 
-  -- What is allowed after the shared log is allowed after the serial run and the uncommitted
-  -- entries.
+  -- After the serial run and the uncommitted entries, all is allowed that is allowed after the
+  -- shared log.
   abbrev pub MayRunSerially : Config Op → Type 0
   MayRunSerially c =
       (k : List Op) → Allowed O (shared_ops c.shared ++ k) →

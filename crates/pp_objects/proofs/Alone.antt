@@ -27,7 +27,7 @@ module _ (k : Kind) where
       let Q : Act → Type 0 = λ y. WasApplied one y u w in
       was_applied_alone k s a u (subst P e (subst Q f h))
 
-  -- a pair of the kind swaps if it does so by itself
+  -- A pair of the kind swaps if it swaps in its kind.
   pub pair_swaps : (x y : Act) (a b : Ops k) (t : Bool) → x ≡ act_of k a → y ≡ act_of k b
       → (IsTrue t → Swaps (object_of k) a b) → (Swaps (object_of k) a b → IsTrue t) → IsTrue t
       ↔ Swaps one x y

@@ -110,7 +110,7 @@ module _ (k : Kind) {G : Type 0} (gaps : GapsOf k G) where
       let d = (gaps.differ g (state_of k s) t).0 h in
       (d.1, d.3, subst (λ (v : States k). gaps.Differ g v d.1) (sym (one_state k s d.0 d.2)) d.4)
 
-  -- What an act leaves.
+  -- The gap that an act leaves is the one of its kind.
   leaves_same : (a : Ops k) (u : Undo)
       → Leaves (object_of k) gaps.Bears gaps.Differ a (undo_from k u) left.Same
       → (s : States k) → one.upkeep.IsState (state_of k s) → IsLegal one (state_of k s) (act_of k a)
@@ -161,7 +161,7 @@ module _ (k : Kind) {G : Type 0} (gaps : GapsOf k G) where
       subst (λ (y : Act). P y q) (sym e)
       (subst (λ (l : Left ActGap). P (act_of k a) l) (sym i) (leaves_by a u r h))
 
-  -- What an act makes of a gap.
+  -- An act changes a gap as its kind does.
   kept_there : (s t : States k) (a : Ops k)
       → (object_of k).upkeep.kept t a ≡ (object_of k).upkeep.kept s a
       → one.upkeep.kept (state_of k t) (act_of k a) ≡ one.upkeep.kept (state_of k s) (act_of k a)
@@ -189,7 +189,7 @@ module _ (k : Kind) {G : Type 0} (gaps : GapsOf k G) where
     kept = kept_is k t a ∙ ap (undo_as k) met.kept;
   }
 
-  -- what is shown of each state of the kind that differs from one is shown of each
+  -- A fact about each state of the kind that differs from one by a gap is a fact about each object that does.
   from_here : (g : G) (s : States k) (P : ObjectState → Type 0)
       → ((t : States k) → (object_of k).upkeep.IsState t → gaps.Differ g s t → P (state_of k t))
       → (t : ObjectState) → one.upkeep.IsState t → OneDiffer (gaps.wrap g) (state_of k s) t → P t
@@ -257,7 +257,7 @@ module _ (k : Kind) {G : Type 0} (gaps : GapsOf k G) where
       (subst (λ (c : Crossed ActGap Undo). P (gaps.wrap g) (act_of k a) c) (sym j)
       (crosses_by g a r h)))
 
-  -- What an object bears, and what it is made.
+  -- The gap of an object is borne and closed as in its kind.
   pub bears_here : (f : ActGap) (g : G) (w : ObjectState) (s : States k) → f ≡ gaps.wrap g
       → w ≡ state_of k s → gaps.Bears g s → OneBears f w
   bears_here f g w s e i h =

@@ -78,7 +78,7 @@ module _ (k : Kind) where
       λ swaps. kept_in_kind in_turn a b (kept (swaps_out k a b swaps)) in
       subst (λ (v : Act). P v y) (sym e) (subst (λ (w : Act). P (act_of k a) w) (sym f) there)
 
-  -- An act of the kind, and one that may be legal beside it.
+  -- An act that is legal together with an act of a kind is of that kind.
   beside : (x y : Act) (a : Ops k) → x ≡ act_of k a → (s : ObjectState) → IsLegal one s x
       → IsLegal one s y → (b : Ops k) × (y ≡ act_of k b)
   beside x y a e s h g =
@@ -86,7 +86,7 @@ module _ (k : Kind) where
       let kind = only_kind k (one.shape s) a own.0 in
       its_act k y (subst (λ (q : Kind). IsTrue (one.fits q y)) kind g.0)
 
-  -- What is kept of an act of the kind.
+  -- The undo value of an act of the kind is the one of its kind.
   keeps_out : (b : Ops k) (u : Undo) → MayKeep one (act_of k b) u
       → MayKeep (object_of k) b (undo_from k u)
   keeps_out b u keeps =

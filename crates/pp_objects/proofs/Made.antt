@@ -1,4 +1,4 @@
--- What the calls of records make.
+-- The operations that the calls of records make.
 use Rattle.std.proofs.Common.{◌≡◌, ℕ, ℤ, Bool, true, false, cond, ◌&&◌, IsTrue, Option, Some, None}
 use Rattle.std.proofs.Common.{IsSome, IfSome, option_and_then, ◌↔◌, refl, sym, ◌∙◌, ap, subst, inl}
 use Rattle.std.proofs.Common.{inr}
@@ -27,7 +27,7 @@ use Rattle.pp_objects.specs.Calls.{HasMethod, form_of, has_form, with_used, IsCa
 use Rattle.pp_objects.specs.Calls.{op_made, ranged_op, memory_act, set_act, map_act, counter_act}
 use Rattle.pp_objects.specs.Calls.{queue_act, stack_act, prio_act, act_made}
 
--- what an act has of a call
+-- the facts about an act that is made from a call
 IsActOf : Kind → Call → Answer → Act → Type 0
 IsActOf kind c answer a = IsTrue (fits kind a) × (record (call_of a) { object = c.object } ≡ with_used kind c) × (recorded_by a ≡ answer)
 
@@ -326,7 +326,7 @@ made_called kind c answer h = by_answer (is_ranged_answer answer) refl h
 pub called_exactly : (kind : Kind) (c : Call) (answer : Answer) → IsSome (op_made kind c answer) ↔ IsCallOf kind c answer
 called_exactly kind c answer = (made_called kind c answer, called_made kind c answer)
 
--- What is made of a call is this call.
+-- An operation that is made from a call has that call.
 pub made_is : (kind : Kind) (c : Call) (answer : Answer) → IfSome (op_made kind c answer) (IsOpOf kind c answer)
 made_is kind c answer = by_answer (is_ranged_answer answer)
   where

@@ -1,4 +1,4 @@
--- What finding by a word finds.
+-- Searching by a word.
 use Rattle.std.proofs.Common.{◌≡◌, ◌<◌, ◌+◌, ℕ, Bool, true, false, cond, List, [], ◌∷◌, length}
 use Rattle.std.proofs.Common.{drop, get_or, Option, Some, None, IfSome, refl, sym, ◌∙◌, ap, inl}
 use Rattle.std.proofs.Common.{inr}

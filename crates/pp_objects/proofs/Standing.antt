@@ -23,7 +23,7 @@ use Rattle.pp_objects.specs.laws.One.{one_lawful, reached_shape, others_swap}
 use Rattle.pp_objects.specs.laws.Elements.{same_place}
 use Rattle.pp_objects.specs.laws.Places as places
 
--- an addition of another number than 0 is let past nothing but additions
+-- An operation that swaps with an addition of a number other than 0 is an addition.
 add_before : (d e : ℤ) (c : CounterOp) → not (int_eq d (pos 0)) ≡ true
     → may_swap (Add d) c ≡ true → may_swap (Add e) c ≡ true
 add_before d e (Add x) n t = refl
@@ -61,7 +61,7 @@ module _ (k : Kind) (a b : Ops k) (stands : StandsFor (object_of k) a b) where
       subst P (sym (only_kind k q b e)) there c h
   behind_by q c false e h = others_swap q c (act_of k b) e
 
-  -- What represents another in its kind does so among all acts.
+  -- An operation that represents another one in its kind does so among all acts.
   stands_in : StandsFor one (act_of k a) (act_of k b)
   stands_in = (
     (λ c h. before_by c (one.fits k c) refl h),
@@ -91,7 +91,7 @@ module _ (p : ℕ) (a b : Act) (stands : StandsFor one a b) where
   place_behind c (inr apart) h = places.others_swap one one_lawful c (act_at p b)
       (λ e. apart (sym e))
 
-  -- What represents another act does so at each place.
+  -- An act that represents another one does so at each place.
   stands_at : StandsFor objects (act_at p a) (act_at p b)
   stands_at = (
     (λ c h. place_before c (same_place p c.object) h),

@@ -75,7 +75,7 @@ was_there ss x u h =
           ∙ next_there one one_lawful h.0 x t.0 t.1,
     )
 
--- what is read at that place is this object
+-- The object that is read at a place is the object there.
 pub lent : (ss items : List ObjectState) (p n : ℕ) (s v : ObjectState) → slice_get ss p ≡ Some s
     → items ≡ ss → n ≡ p → v ≡ get_or items n v → slice_get ss p ≡ Some v
 lent ss items p n s v e i j h =
@@ -83,7 +83,7 @@ lent ss items p n s v e i j h =
     ∙ ap (λ (q : ℕ). get_or ss q v) j in
     e ∙ ap Some (sym (at ∙ get_or_from_slice_get ss p s v e))
 
--- what is written there
+-- The objects after one is written at a place.
 pub written : (ss items : List ObjectState) (p n : ℕ) (t : ObjectState) → items ≡ ss → n ≡ p
     → set items n t ≡ set ss p t
 written ss items p n t i j = ap (λ (l : List ObjectState). set l n t) i

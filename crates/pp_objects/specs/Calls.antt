@@ -50,7 +50,7 @@ HasMethodNamed kind word method = HasMethod kind method × (method_word method �
 abbrev pub method_named : Kind → List ℕ → Option Method
 method_named kind word = named method_word (methods_of kind) word
 
--- how many arguments a call has; the variable `kind` is where it does not depend on the kind
+-- how many arguments a call has; the variable `kind` is used if it does not depend on the kind
 abbrev pub arity_of : Kind → Method → ℕ
 arity_of kind methods.Read = 1
 arity_of kind methods.Write = 2
@@ -75,7 +75,8 @@ arity_of kind methods.Insert = 1
 arity_of kind methods.Take = 0
 arity_of kind methods.Least = 0
 
--- the form of the results of a method; the variable `kind` is where it does not depend on the kind
+-- the form of the results of a method; the variable `kind` is used if it does not depend on the
+-- kind
 abbrev pub form_of : Kind → Method → Form
 form_of kind methods.Read = forms.Number
 form_of kind methods.Write = forms.Nothing

@@ -17,7 +17,7 @@ use Rattle.pp_objects.specs.declared.gap.Gap.{Gap}
 use Rattle.pp_objects.specs.declared.states.ObjectState.{ObjectState}
 use Rattle.pp_objects.specs.laws.Kinds.{States, state_of}
 
--- the kind of the objects that it is a gap of
+-- the kind of the objects of the gap
 abbrev pub kind_for : ActGap → Kind
 kind_for (Memory g) = kinds.Memory
 kind_for (KeySet g) = kinds.KeySet
@@ -27,7 +27,7 @@ kind_for (Queue g) = kinds.Queue
 kind_for (Stack g) = kinds.Stack
 kind_for (PriorityQueue g) = kinds.PriorityQueue
 
--- what its kind says of it
+-- what its kind requires of the state
 abbrev pub KindBears : (g : ActGap) → States (kind_for g) → Type 0
 KindBears (Memory g) s = memories.Bears g s
 KindBears (KeySet g) s = sets.Bears g s
@@ -46,7 +46,7 @@ KindDiffer (Queue g) s t = queues.Differ g s t
 KindDiffer (Stack g) s t = stacks.Differ g s t
 KindDiffer (PriorityQueue g) s t = prios.Differ g s t
 
--- an object of this kind has what was asked of the other one
+-- an object of this kind meets what was required of the other one
 abbrev pub OneBears : ActGap → ObjectState → Type 0
 OneBears g s = (v : States (kind_for g)) → s ≡ state_of (kind_for g) v → KindBears g v
 

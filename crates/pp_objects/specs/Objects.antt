@@ -29,7 +29,7 @@ abbrev pub fits_in : Object Kind ObjectState Act Undo → Option Kind → Act �
 fits_in o None a = false
 fits_in o (Some kind) a = o.fits kind a
 
--- what the object at a place returns, and what is kept to take an act back
+-- the result of the object at a place, and the undo value that it keeps for an act
 abbrev pub gives_in : Object Kind ObjectState Act Undo → Option ObjectState → Act → Answer
 gives_in o None a = NoAnswer
 gives_in o (Some s) a = o.gives s a

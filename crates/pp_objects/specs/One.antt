@@ -74,7 +74,7 @@ fits kinds.Stack act = false
 fits kinds.PriorityQueue (PriorityQueue a) = true
 fits kinds.PriorityQueue act = false
 
--- the kind of the objects that it is an act on
+-- the kind of the objects of the act
 abbrev pub kind_for : Act → Kind
 kind_for (Memory a) = kinds.Memory
 kind_for (KeySet a) = kinds.KeySet
@@ -148,7 +148,7 @@ state_after (states.Stack s) act = states.Stack s
 state_after (states.PriorityQueue s) (PriorityQueue a) = states.PriorityQueue (prio.next s a)
 state_after (states.PriorityQueue s) act = states.PriorityQueue s
 
--- what is kept to take it back: what a memory keeps, and else nothing
+-- the undo value of the act: a memory keeps one, and the other kinds nothing
 abbrev pub kept_by : ObjectState → Act → Undo
 kept_by (states.Memory s) (Memory a) = memory.upkeep.kept s a
 kept_by (states.Memory s) act = Nothing
@@ -199,7 +199,7 @@ refuting_lists (Stack a) act = None
 refuting_lists (PriorityQueue a) (PriorityQueue b) = both_as PriorityQueue (prio.refuting a b)
 refuting_lists (PriorityQueue a) act = None
 
--- what `apply` did, with nothing kept
+-- the outcome of `apply`, with nothing kept
 abbrev pub keeping_nothing : Result (Applied (Unit {0})) OutOfMemory
     → Result (Applied Undo) OutOfMemory
 keeping_nothing (Ok (Done u)) = Ok (Done Nothing)

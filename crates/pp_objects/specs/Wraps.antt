@@ -15,7 +15,7 @@ crossed_as f k (crossed.Same u) = crossed.Same (k u)
 crossed_as f k (crossed.Apart g) = crossed.Apart (f g)
 crossed_as f k crossed.Unknown = crossed.Unknown
 
--- what is kept of an act of a kind that keeps nothing
+-- the undo value of an act of a kind that keeps nothing
 abbrev pub nothing_for : Unit {0} → Undo
 nothing_for u = Nothing
 

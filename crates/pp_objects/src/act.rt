@@ -35,7 +35,7 @@ pub struct Op {
 }
 
 impl Act {
-    /// The kind of the objects that it is an act on.
+    /// The kind of the objects of the act.
     pub fn kind(&self) -> Kind
         ensures { result ≡ kind_for self.now }
     {

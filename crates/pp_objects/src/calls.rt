@@ -33,7 +33,7 @@ fn methods(kind: Kind) -> &'static [Method]
     }
 }
 
-/// Of these methods the first whose word this is.
+/// The first of these methods with this word.
 fn first_named(methods: &[Method], word: &[u8]) -> Option<Method>
     ensures { result ≡ named method_word methods.now word.now }
 {

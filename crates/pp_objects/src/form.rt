@@ -1,10 +1,10 @@
-//! What results look like.
+//! The forms of results.
 ghost use Rattle.std.specs.Prelude.{◌≡◌};
 ghost use Rattle.pp_objects.specs.Calls.{HasMethod, form_of};
 
 use pp_core::{Kind, Method};
 
-/// What the results of a method look like.
+/// The form of the results of a method.
 #[derive(Clone, Copy, Debug, PartialEq, Eq)]
 pub enum Form {
     /// There is no result.

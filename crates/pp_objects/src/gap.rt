@@ -1,4 +1,4 @@
-//! How the objects of a run differ from what they would be without one of its operations.
+//! The difference between the objects of a run and those without one of its operations.
 ghost use Rattle.std.specs.Prelude.{◌≡◌};
 ghost use Rattle.pp_objects.specs.Wraps.{crossed_as, itself, left_as, nothing_for};
 ghost use Rattle.pp_objects.specs.declared.gap.ActGap.TheVariants.{Memory};
@@ -120,7 +120,7 @@ impl KindGap for PrioGap {
     }
 }
 
-/// What a kind's operation leaves, as what an act does.
+/// The gap of an operation of a kind, as the gap of an act.
 #[inline(always)]
 pub fn left_as<G: KindGap>(left: Left<G>) -> Left<ActGap>
     ensures { result ≡ left_as G.as_act left }
@@ -131,7 +131,7 @@ pub fn left_as<G: KindGap>(left: Left<G>) -> Left<ActGap>
     }
 }
 
-/// What a kind's operation makes of a gap, as what an act does, if the kind keeps nothing.
+/// A gap after an operation of a kind, as the gap after an act, if the kind keeps nothing.
 #[inline(always)]
 pub fn crossed_as<G: KindGap>(crossed: Crossed<G, ()>) -> Crossed<ActGap, Undo>
     ensures { result ≡ crossed_as G.as_act nothing_for crossed }

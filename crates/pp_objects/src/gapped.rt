@@ -56,7 +56,7 @@ impl OneObject {
         }
     }
 
-    /// Whether the state has what was asked of the other one. False says nothing.
+    /// Whether the state meets what was required of the other one. False says nothing.
     pub fn bears(gap: &ActGap, state: &ObjectState) -> bool
         ensures { IsTrue result → OneBears gap.now state.now }
     {

@@ -23,7 +23,7 @@ use std::sync::ledger::Ledger;
 #[derive(Drop)]
 pub struct OneObject;
 
-/// What `apply` of a kind that keeps nothing did.
+/// The outcome of `apply` of a kind that keeps nothing.
 fn keeping_nothing(applied: Result<Applied<()>, OutOfMemory>) -> Result<Applied<Undo>, OutOfMemory>
     ensures { result ≡ keeping_nothing applied }
 {
@@ -65,7 +65,7 @@ impl OneObject {
         }
     }
 
-    /// Lets an act take effect if it is legal. The only error is out of memory.
+    /// Applies an act if it is legal. The only error is out of memory.
     #[inline(always)]
     pub fn apply<L: Ledger>(
         state: &mut ObjectState,

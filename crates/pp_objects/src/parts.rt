@@ -1,4 +1,4 @@
-//! What operations are about, and which represent others.
+//! The parts of operations, and which operations represent others.
 ghost use Rattle.std.specs.Prelude.{◌≡◌, IsTrue};
 ghost use Rattle.pp_kind.specs.Parts.{IsGate, StandsFor};
 ghost use Rattle.pp_objects.specs.Objects.{objects};
@@ -175,7 +175,7 @@ fn label(act: &Act) -> Label
     }
 }
 
-/// Which acts of a form are known to swap with this one after them, by their numbers. Those of
+/// The acts of a form that are known to swap with this one after them, by their numbers. Those of
 /// other kinds always do.
 #[inline]
 fn gate(form: usize, act: &Act) -> Gate

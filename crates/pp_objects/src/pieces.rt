@@ -1,4 +1,4 @@
-//! What is shown of the state of an object.
+//! The pieces of the state of an object that are printed.
 ghost use Rattle.std.specs.Prelude.{◌≡◌, ◌<◌, ◌++◌, length, map, option_to_list, IfOk, OnOk};
 ghost use Rattle.pp_objects.specs.Pieces.{alone, at_key, pieces_of, pieces_at};
 
@@ -8,7 +8,7 @@ use pp_kind_queue::Queue;
 use pp_kind_stack::Pile;
 use std::alloc::Global;
 
-/// What is shown of an object: a number, and its key if it is at one.
+/// A printed piece of an object: a number, and its key if it is at one.
 #[derive(Clone, Copy, Debug, PartialEq, Eq)]
 pub struct Piece {
     pub key: Option<i64>,
@@ -99,7 +99,7 @@ fn show_state(alloc: Global, state: &ObjectState) -> Result<Pieces, OutOfMemory>
     }
 }
 
-/// What the state of an object shows. The only error is out of memory.
+/// The printed pieces of the state of an object. The only error is out of memory.
 pub fn show(alloc: Global, states: &ObjectStates, object: u16) -> Result<Pieces, OutOfMemory>
     requires { object < length states.now }
     ensures { IfOk result (λ pieces. pieces ≡ pieces_at states.now object) }

@@ -1,4 +1,4 @@
--- What the steps of a record and of a run carry.
+-- The names and operations that the steps of a record and of a run carry.
 use Rattle.std.specs.Prelude.{◌≡◌, ℕ, zero, suc, ◌==◌, Bool, true, false, cond, List, [], ◌∷◌, ◌++◌}
 use Rattle.std.specs.Prelude.{map, filter, reverse, drop, Option, None, Some}
 use Rattle.std.proofs.Common.{refl, sym, ap, subst, ◌∙◌}

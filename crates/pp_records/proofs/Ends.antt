@@ -133,7 +133,7 @@ verdict_off {Op} O i c (s ∷ ss) run v (inr e) k =
       | inr z ↦ inr (z.0, verdict_off O (suc i) (then c s.what) ss e.1.0 v e.1.1 z.1)
     ])
 
--- a verdict tells the run
+-- A verdict determines the run.
 pub accepted_ends : {Op State : Type 0} (O : Object Op State) (i : ℕ) (c : Config Op) (ss : List (Lined (Step Op))) → IsVerdictFrom O i c (bare ss) Accepted → EndsAtFailure O c ss ss
 accepted_ends O i c [] k = refl
 accepted_ends O i c (s ∷ ss) (inl k) = absurd (let e : Accepted ≡ Rejected i (suc k.0) = k.2 in cc)

@@ -1,4 +1,4 @@
--- What a reader of records keeps.
+-- What a reader of records keeps true.
 use Rattle.std.specs.Prelude.{◌≡◌, ◌<◌, ◌≤◌, ◌+◌, ℕ, suc, List, [], ◌∷◌, ◌++◌, length, Option}
 use Rattle.std.proofs.Common.{refl, sym, ap, subst, ◌∙◌, arith, append_assoc, length-append}
 use Rattle.std.proofs.lemmas.List.{append-nil, map-append}
@@ -27,7 +27,7 @@ module _ {F R Op State : Type 0} (O : Object Op State) (T : Translation F R Op) 
       joined_more O T (outset T h) rs (r ∷ more)
       ∙ ap (λ (w : Standing F Op). joined_steps T (outset T h) rs ++ (on_line r.line (steps_at T w r.what) ++ joined_steps T (after_record T w r.what) more)) (sym e)
 
-  -- where the run is after some steps of a record
+  -- The state of the run after some steps of a record.
   record Within (h : Option (Start Op)) (p : Standing F Op) (count : ℕ) (before : List (Step Op)) (xs : List (Lined (Step Op))) : Type 0 where
     pub hold : RunsFrom O (first h) (bare xs)
     pub config : after_from (first h) (bare xs) ≡ after_from p.config before

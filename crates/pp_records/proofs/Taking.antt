@@ -1,4 +1,4 @@
--- What taking entries out of a local log, and pulling entries into it, leave.
+-- Local logs after entries were taken out of them or pulled into them.
 use Rattle.std.specs.Prelude.{◌≡◌, ◌≢◌, ℕ, eqb, Bool, true, false, not, cond, ◌&&◌, List, [], ◌∷◌}
 use Rattle.std.specs.Prelude.{◌++◌, map, take, drop, Option, Some}
 use Rattle.std.proofs.Common.{refl, sym, ap, subst, ◌∙◌, append_assoc, take-append-drop}

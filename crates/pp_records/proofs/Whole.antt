@@ -77,7 +77,7 @@ module _ {F R Op State : Type 0} (O : Object Op State) (T : Translation F R Op) 
       ap (λ (w : List (Lined (Step Op))). on_line r.line (steps_at T p r.what) ++ w) (joined_more (after_record T p r.what) rs more)
       ∙ sym (append_assoc (on_line r.line (steps_at T p r.what)) (joined_steps T (after_record T p r.what) rs) (joined_steps T (after_records T (after_record T p r.what) rs) more))
 
-  -- Records in two parts lead to where the second part leads from where the first does.
+  -- The state after two parts of records is the state after the second part, from the state after the first.
   pub led_more : (p : Standing F Op) (rs more : List (Lined R)) → after_records T p (rs ++ more) ≡ after_records T (after_records T p rs) more
   led_more p [] more = refl
   led_more p (r ∷ rs) more = led_more (after_record T p r.what) rs more

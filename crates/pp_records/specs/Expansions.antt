@@ -16,7 +16,7 @@ use Rattle.pp_records.specs.Fronts.{Front, has_name, is_mem, mark_of, opened_at,
 use Rattle.pp_records.specs.Fronts.{with_source, with_sources, without_source}
 
 -- Below, G is the shared log, l is the local log L of the transaction t, o is an object, and place
--- tells the object of an operation.
+-- is the object of an operation.
 abbrev pub LocalLog : Type 0 → Type 0
 LocalLog Op = List (LocalEntry Op)
 
@@ -55,13 +55,13 @@ abbrev pub follow : {Op : Type 0} → Placing Op → Name → ℕ → List Name 
     Steps Op
 follow place t o sources G l = pulls t (λ g. is_followed sources g && (place g.op == o)) G l
 
--- what takes out an entry of this mark: UNPULL, or UNPUSH and then UNAPP, or UNAPP
+-- the steps that take out an entry of this mark: UNPULL, or UNPUSH and then UNAPP, or UNAPP
 abbrev pub taken_at : {Op : Type 0} → Name → ℕ → Mark → Steps Op
 taken_at t id Pulled = Unpull t id ∷ []
 taken_at t id Pushed = Unpush t id ∷ Unapp t id ∷ []
 taken_at t id Unpushed = Unapp t id ∷ []
 
--- what takes these entries out of L, from the end
+-- the steps that take these entries out of L, from the end
 abbrev pub taken_out : {Op : Type 0} → Name → LocalLog Op → Steps Op
 taken_out t [] = []
 taken_out t (e ∷ l) = taken_out t l ++ taken_at t e.id e.mark
@@ -98,8 +98,8 @@ abbrev pub op_later : {Op : Type 0} → Placing Op → LocalLog Op → SharedLog
     ℕ → Op → Steps Op
 op_later place seen G l t id op = refresh_unless place t (place op) seen G l ++ App t id op ∷ []
 
--- an operation of style hardware: later on a memory in a section, where what L has from the mark on
--- is seen, and else at once
+-- an operation of style hardware: applied later, if it is on a memory in a section, and then sees L
+-- from the mark on; otherwise at once
 abbrev pub hardware_op : {Op : Type 0} → Placing Op → Bool → Option ℕ → SharedLog Op → LocalLog Op →
     Name → ℕ → Op → Steps Op
 hardware_op place true (Some mark) G l t id op = op_later place (drop mark l) G l t id op

@@ -14,7 +14,8 @@ pub record Scan (H R Cause : Type 0) : Type 0 where
   pub records : Records R
   pub fault : Option (ℕ × Cause)
 
--- What a header says of its run: its own line, the object, the start, and how records become steps.
+-- The setting of a run, from its header: the header's line, the object, the start, and how records
+-- become steps.
 pub record Setting (F R Op State : Type 0) : Type 1 where
   pub line : ℕ
   pub object : Object Op State
@@ -28,16 +29,16 @@ OverrunsAt setting None rs line = ⊥
 OverrunsAt setting (Some h) rs line =
     HasTooManySteps (setting h).object (setting h).translation (setting h).start rs line
 
--- The fault of an input: TooManySteps where it comes, and else the fault of the scan. Of the early
--- scan it is the early fault.
+-- The fault of an input: TooManySteps if it occurs, and otherwise the fault of the scan. For the
+-- early scan it is the early fault.
 abbrev pub IsFault : {H F R Op State Cause : Type 0} → (H → Setting F R Op State) → Cause →
     Scan H R Cause → Option (ℕ × Cause) → Type 0
 IsFault setting too_many sc fault =
     ((line : ℕ) × OverrunsAt setting sc.header sc.records line × (fault ≡ Some (line, too_many)))
     ⊎ (((line : ℕ) → OverrunsAt setting sc.header sc.records line → ⊥) × (fault ≡ sc.fault))
 
--- What is reported. For a rejected step, the configuration before it determines the evidence. Step
--- 0 is the start.
+-- The report of a run. For a rejected step, the configuration before it determines the evidence.
+-- Step 0 is the start.
 pub data Report (Op State Cause : Type 0) : Type 0 where
   Faulty : (line : ℕ) (cause : Cause) → Report Op State Cause
   Accepts : (steps : ℕ) (committed : List (Attempt Op)) (final : State) → Report Op State Cause

@@ -54,13 +54,14 @@ pub record ExtendsLaw {F R Op State : Type 0} (O : Object Op State) (T : Transla
       line
       ↔ HasOneMore O most (after_records T p rs).config
       (joined_steps T (after_records T p rs) more) line
-  -- what is decided stays
+  -- a verdict stays when records follow
   pub rejected : (h : Option (Start Op)) (rs more : Records R) (run : LinedSteps Op) (i n : ℕ) →
       IsRun O T h rs run → IsVerdict O h (bare run) (Rejected i n) → IsRun O T h (rs ++ more) run
   pub too_many : (h : Option (Start Op)) (rs more : Records R) (line : ℕ) →
       HasTooManySteps O T h rs line → HasTooManySteps O T h (rs ++ more) line
 
--- Each step of the records holds, at most 200,000 of them, and this is where they lead.
+-- Each step of the records meets its criteria, there are at most 200,000 of them, and they lead to
+-- this state.
 pub record StandsAt {F R Op State : Type 0} (O : Object Op State) (T : Translation F R Op)
     (h : Option (Start Op)) (rs : Records R) (p : Standing F Op) (count : ℕ) : Type 0 where
   pub begun : StartMeets O h
@@ -76,7 +77,7 @@ pub record IsRejectedAt {F R Op State : Type 0} (O : Object Op State) (T : Trans
   pub verdict : IsVerdict O h (bare run) (Rejected i (suc n))
   pub few : (line : ℕ) → HasTooManySteps O T h rs line → ⊥
 
--- What a reader of records keeps.
+-- What a reader of records keeps true.
 pub record ReadingLaw {F R Op State : Type 0} (O : Object Op State) (T : Translation F R Op) :
     Type 0 where
   pub nothing : (h : Option (Start Op)) → StartMeets O h → StandsAt O T h [] (outset T h) 0

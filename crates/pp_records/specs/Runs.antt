@@ -31,11 +31,11 @@ pub record Standing (F Op : Type 0) : Type 0 where
 abbrev pub outset : {F R Op : Type 0} → Translation F R Op → Option (Start Op) → Standing F Op
 outset T h = record { front = T.new; config = first h }
 
--- the steps of a record, from where the run is
+-- the steps of a record, in this state of the run
 abbrev pub steps_at : {F R Op : Type 0} → Translation F R Op → Standing F Op → R → List (Step Op)
 steps_at T p r = T.expand p.front p.config r
 
--- where they lead
+-- the state of the run after them
 abbrev pub after_record : {F R Op : Type 0} → Translation F R Op → Standing F Op → R → Standing F Op
 after_record T p r =
     record {
@@ -57,7 +57,7 @@ joined_steps T p [] = []
 joined_steps T p (r ∷ rs) =
     on_line r.line (steps_at T p r.what) ++ joined_steps T (after_record T p r.what) rs
 
--- where the records lead
+-- the state of the run after the records
 abbrev pub after_records : {F R Op : Type 0} → Translation F R Op → Standing F Op → Records R →
     Standing F Op
 after_records T p [] = p
@@ -73,12 +73,12 @@ EndsAtFailure O c (s ∷ ss) run =
     × ((rest : List (Lined (Step _))) × EndsAtFailure O (then c s.what) ss rest
     × (run ≡ s ∷ rest)))
 
--- the run of the records from where it is
+-- the run of the records from this state
 abbrev pub IsRunFrom : {F R Op State : Type 0} → Object Op State → Translation F R Op →
     Standing F Op → Records R → LinedSteps Op → Type 0
 IsRunFrom O T p rs run = EndsAtFailure O p.config (joined_steps T p rs) run
 
--- The run of the records: no steps where the start fails.
+-- The run of the records: no steps if the start fails.
 abbrev pub IsRun : {F R Op State : Type 0} → Object Op State → Translation F R Op →
     Option (Start Op) → Records R → LinedSteps Op → Type 0
 IsRun O T h rs run =

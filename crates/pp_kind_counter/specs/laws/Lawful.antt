@@ -25,7 +25,7 @@ numbers_told_apart : (n m : ℤ) → AllowsAllOf counter n m → n ≡ m
 numbers_told_apart n m also =
     sym (told (Get n) m (also (Get n ∷ []) (legal_where_told (Get n) n refl, tt)).0)
 
--- An operation is ranged where its argument and its recorded result are.
+-- An operation is ranged if its argument and its recorded result are.
 numbers : (op : CounterOp) → is_ranged op
     ≡ (has_ranged_arguments (call_of op) && is_ranged_answer (recorded_by op))
 numbers (Add by) = sym (and-true (has_ranged_arguments (call_of (Add by))) ∙ one_ranged by)

@@ -26,7 +26,7 @@ legal_where_told (Add by) n h = (search rules, refl)
 legal_where_told (Get value) n h = (search rules, ap Number h)
 legal_where_told (FetchAdd by was) n h = (search rules, ap Number h)
 
--- Operations of one call are given one answer.
+-- Operations of one call have one result in one state.
 pub same_given : (n : ℤ) (a b : CounterOp) → call_of a ≡ call_of b → given_by n a ≡ given_by n b
 same_given n (Add d) (Add e) h = refl
 same_given n (Get v) (Get w) h = refl

@@ -8,7 +8,7 @@ use Rattle.pp_kind_counter.specs.Movers.{may_swap}
 use Rattle.pp_kind_counter.specs.Contexts.{pair_begins}
 use Rattle.pp_kind_counter.specs.laws.Legal.{Tells}
 
--- A pair that the table lets swap is legal the other way round too.
+-- A pair that the table allows to swap is legal in the other order too.
 pub second_is_first : (a b : CounterOp) (n : ℤ) → may_swap a b ≡ true → Tells a n
     → Tells b (n +ℤ shift_of a) → Tells b n
 second_is_first (Add d) (Add e) n t h k = tt
@@ -32,7 +32,8 @@ first_is_second (FetchAdd d v) (Add e) n t h k = grind (arith, ints)
 first_is_second (FetchAdd d v) (Get w) n t h k = grind (arith, ints)
 first_is_second (FetchAdd d v) (FetchAdd e w) n t h k = grind (arith, ints)
 
--- A pair that it does not let swap is legal where it begins, and not the other way round.
+-- A pair that the table does not allow to swap is legal in this order in some state, and not in the
+-- other order.
 pub begins_first : (a b : CounterOp) → may_swap a b ≡ false → Tells a (pair_begins a b)
 begins_first (Add d) b t = tt
 begins_first (Get v) (Add e) t = refl

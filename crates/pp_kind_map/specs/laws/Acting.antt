@@ -59,7 +59,7 @@ same_given values a b e = ap (λ (q : ℤ). answer_of (get values q))
     first_is_key (Get key found) = refl
     first_is_key (Remove key was) = refl
 
--- An operation is ranged where its arguments and its recorded result are.
+-- An operation is ranged if its arguments and its recorded result are.
 numbers : (op : MapOp) → is_ranged op
     ≡ (has_ranged_arguments (call_of op) && is_ranged_answer (recorded_by op))
 numbers (Put key v was) = ap (λ (b : Bool). (in_range key && in_range v) && b) (found_numbers was)

@@ -20,7 +20,7 @@ use Rattle.pp_kind_map.specs.KeyMap.{key_map, map_keys}
 use Rattle.pp_kind_map.specs.laws.Rule.{alike_is, table_is_rule}
 use Rattle.pp_kind_map.specs.laws.Acting.{map_is_keyed}
 
--- What is put first is at its key.
+-- Putting a value at a key of the empty map is allowed.
 put_allowed : (key : ℤ) (v : Option ℤ) → IsAllowed key_map tt (put_first key v)
 put_allowed key None = tt
 put_allowed key (Some x) = ((refl, ap answer_of (get-empty {X = ℤ} int_cmp key)), tt)
@@ -30,7 +30,7 @@ put_stands key None = get-empty {X = ℤ} int_cmp key
 put_stands key (Some x) = left_here key_map (told_keys map_keys) map_is_keyed empty (Put key x None)
     key refl (put_allowed key (Some x)).0
 
--- It is ranged where the key and the value are.
+-- The operations that put a value are ranged if the key and the value are.
 put_ranged : (key : ℤ) (v : Option ℤ) → (in_range key && is_ranged_found v) ≡ true
     → AllRanged key_map (put_first key v)
 put_ranged key None h = tt
@@ -44,7 +44,7 @@ before_ranged (Put key v was) h =
 before_ranged (Get key found) h = put_ranged key found h
 before_ranged (Remove key was) h = put_ranged key was h
 
--- The lists of a map refute each pair that its table does not let swap.
+-- The lists of a map refute each pair that its table does not allow to swap.
 pub map_is_shown : IsShown key_map (told_keys map_keys) table_lets lists_round
 map_is_shown = record {
   by_table = λ a b. refl;

@@ -48,7 +48,8 @@ finds_legal m (Cas a e n true) h = (refl, ap Truth (key_is (value_at m a) e h))
 finds_legal m (Cas a e n false) h =
     (refl, unlike_told (int_eq (value_at m a) e) (value_at m a) e refl h)
 
--- What a compare-and-swap does where its number is the expected one, and where it is not.
+-- The state after a compare-and-swap whose number is the expected one, and after one whose number
+-- is not.
 swapped : (m : FinMap int_cmp ℤ) (a e n : ℤ) → IsLegal memory m (Cas a e n true)
     → memory_after m (Cas a e n true) ≡ written m a n
 swapped m a e n h = ap (λ (b : Bool). if b then written m a n else m)
@@ -59,7 +60,7 @@ left_alone : (m : FinMap int_cmp ℤ) (a e n : ℤ) → IsLegal memory m (Cas a 
 left_alone m a e n h = ap (λ (b : Bool). if b then written m a n else m)
     (let k = h.1 in let g : int_eq (value_at m a) e ≡ false = cc in g)
 
--- What it leaves, and what it leaves when it is taken back.
+-- The state after an operation, and the state after it is taken back.
 either_way : (b : Bool) (v : ℤ) → v ≡ cond b v v
 either_way true v = refl
 either_way false v = refl
@@ -110,7 +111,7 @@ back_has_no_zero m (Read a v) u h = h
 back_has_no_zero m (Write a v) u h = written_has_no_zero m a (number_of u) h
 back_has_no_zero m (Cas a e n done) u h = chosen_has_no_zero done m a e h
 
--- Operations of one call are given one answer.
+-- Operations of one call have one result in one state.
 same_given : (m : FinMap int_cmp ℤ) (a b : MemOp) → call_of a ≡ call_of b
     → given_by m a ≡ given_by m b
 same_given m (Read a v) (Read b w) h = ap (λ (c : Call). Number (value_at m c.first)) h
@@ -124,7 +125,7 @@ same_given m (Write a v) (Cas b f k other) h = let e = ap (λ (c : Call). c.meth
 same_given m (Cas a e n done) (Read b w) h = let e = ap (λ (c : Call). c.method) h in cc
 same_given m (Cas a e n done) (Write b w) h = let e = ap (λ (c : Call). c.method) h in cc
 
--- An operation is ranged where its arguments and its recorded result are.
+-- An operation is ranged if its arguments and its recorded result are.
 numbers : (a : MemOp) → is_ranged a
     ≡ (has_ranged_arguments (call_of a) && is_ranged_answer (recorded_by a))
 numbers (Read a v) = ap (λ (b : Bool). b && in_range v) (sym (one_ranged a))

@@ -26,7 +26,7 @@ use Rattle.pp_kind_memory.specs.Memories.{memory, addresses}
 use Rattle.pp_kind_memory.specs.laws.Written.{empty_at}
 use Rattle.pp_kind_memory.specs.laws.Acting.{memory_keyed}
 
--- What the conditions of the table say of numbers, where they hold and where not.
+-- The meaning of the conditions of the table for numbers, true and false.
 unequal_is : (v w : ℤ) → not (int_eq v w) ≡ true → v ≡ w → ⊥
 unequal_is v w t e = grind (arith, ints)
 

@@ -36,7 +36,7 @@ drain_allowed : (values : List ℤ) → AllowedFrom prio values (drain values)
 drain_allowed [] = ((refl, refl), tt)
 drain_allowed (x ∷ values) = ((refl, refl), drain_allowed values)
 
--- Only a queue of these values gives them up so.
+-- A queue that allows draining these values has these values.
 drained : (values others : List ℤ) → AllowedFrom prio others (drain values) → values ≡ others
 drained [] [] h = refl
 drained [] (y ∷ others) h = let e = told (Take None) (y ∷ others) h.0 in cc
@@ -44,7 +44,7 @@ drained (x ∷ values) [] h = let e = told (Take (Some x)) [] h.0 in cc
 drained (x ∷ values) (y ∷ others) h = let e = told (Take (Some x)) (y ∷ others) h.0 in
     let f = drained values others h.1 in cc
 
--- An operation is ranged where its argument and its recorded result are.
+-- An operation is ranged if its argument and its recorded result are.
 numbers : (op : PrioOp) → is_ranged op
     ≡ (has_ranged_arguments (call_of op) && is_ranged_answer (recorded_by op))
 numbers (Insert x) = sym (and-true (has_ranged_arguments (call_of (Insert x))) ∙ one_ranged x)

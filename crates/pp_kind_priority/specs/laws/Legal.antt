@@ -36,7 +36,7 @@ after_ascends values (Insert value) h = with_one_ascends value values h
 after_ascends values (Take value) h = rest_ascends values h
 after_ascends values (Least value) h = h
 
--- Operations of one call are given one answer.
+-- Operations of one call have one result in one state.
 pub same_given : (values : List ℤ) (a b : PrioOp) → call_of a ≡ call_of b
     → given_by values a ≡ given_by values b
 same_given values (Insert x) (Insert y) h = refl

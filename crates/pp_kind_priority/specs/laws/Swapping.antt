@@ -51,8 +51,8 @@ first_by x y false e h = grind (arith, ints)
 first : (x y : ℤ) → least_of (with_one y (x ∷ [])) ≡ Some x → int_le x y ≡ true
 first x y h = first_by x y (int_le y x) refl h
 
--- The lists show a pair that the table does not let swap: it is allowed in their midst, and not the
--- other way round.
+-- The lists refute a pair that the table does not allow to swap: between them it is allowed in this
+-- order, and not in the other.
 pair_refuted : (a b : PrioOp) → may_swap a b ≡ false
     → AllowedFrom prio [] (before_pair a b ++ (a ∷ b ∷ []))
 pair_refuted (Insert x) (Insert y) t = absurd (cc)

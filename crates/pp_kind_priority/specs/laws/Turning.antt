@@ -9,7 +9,7 @@ use Rattle.pp_kind_priority.specs.Movers.{may_swap}
 use Rattle.pp_kind_priority.specs.laws.Values.{with_two, was_least, some_least, stays_least}
 use Rattle.pp_kind_priority.specs.laws.Legal.{Tells}
 
--- The second and then the first tell the least values that they find, and leave the same values.
+-- The second and then the first record the least values that they find, and leave the same values.
 pub record Turns (a b : PrioOp) (values : List ℤ) : Type 0 where
   pub second_first : Tells b values
   pub first_second : Tells a (values_after values b)
@@ -19,7 +19,7 @@ pub record Turns (a b : PrioOp) (values : List ℤ) : Type 0 where
 different : (x y : ℤ) → may_swap (Insert x) (Take (Some y)) ≡ true → x ≢ y
 different x y t e = grind (arith, ints)
 
--- A pair that the table lets swap may be turned wherever it is legal.
+-- A pair that the table allows to swap may be turned wherever it is legal.
 pub pair_turns : (a b : PrioOp) (values : List ℤ) → IsAscending values → may_swap a b ≡ true
     → Tells a values → Tells b (values_after values a) → Turns a b values
 pair_turns (Insert x) (Insert y) values is t h k =

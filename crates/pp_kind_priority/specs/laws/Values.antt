@@ -17,7 +17,7 @@ pub put_behind : (v x : ℤ) (values : List ℤ) → int_le v x ≡ false
 put_behind v x values h =
     ap (λ (b : Bool). if b then v ∷ x ∷ values else x ∷ with_one v values) h
 
--- One of a value is taken where it is, and looked for past others.
+-- Taking a value removes its first copy, and passes over other values.
 pub taken_here : (v x : ℤ) (values : List ℤ) → int_eq v x ≡ true
     → without_one v (x ∷ values) ≡ values
 taken_here v x values h = ap (λ (b : Bool). if b then values else x ∷ without_one v values) h
@@ -27,7 +27,7 @@ pub taken_past : (v x : ℤ) (values : List ℤ) → int_eq v x ≡ false
     → without_one v (x ∷ values) ≡ x ∷ without_one v values
 taken_past v x values h = ap (λ (b : Bool). if b then values else x ∷ without_one v values) h
 
--- One more of a value where it is, and none where another is.
+-- The number of copies of a value grows by one at each element equal to it, and by none at others.
 pub copies_here : (v x : ℤ) (values : List ℤ) → int_eq v x ≡ true
     → copies_of v (x ∷ values) ≡ suc (copies_of v values)
 copies_here v x values h =
@@ -58,7 +58,7 @@ alike v w h k = grind (arith, ints)
 one_is_less : (v w : ℤ) → int_le v w ≡ false → int_le w v ≡ false → ⊥
 one_is_less v w h k = grind (arith, ints)
 
--- What was put in is taken out again.
+-- Taking a value that was just put in restores the list.
 put_taken_by : (v x : ℤ) (values : List ℤ) (t : Bool) → int_le v x ≡ t
     → without_one v (with_one v values) ≡ values
     → without_one v (with_one v (x ∷ values)) ≡ x ∷ values
@@ -176,7 +176,7 @@ pub was_least : (v w : ℤ) (values : List ℤ) → v ≢ w → least_of (with_o
 was_least v w [] n h = absurd (n (let f : v ≡ w = cc in f))
 was_least v w (x ∷ values) n h = was_least_by v w x values (int_le v x) refl n h
 
--- There is a least one, where one was put in.
+-- A list that a value was put in has a least value.
 some_least_by : (v x : ℤ) (values : List ℤ) (t : Bool)
     → least_of (if t then v ∷ x ∷ values else x ∷ with_one v values) ≡ None → ⊥
 some_least_by v x values true h = cc

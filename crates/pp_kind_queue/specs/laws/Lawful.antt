@@ -42,7 +42,7 @@ drain_allowed : (items : List ℤ) → AllowedFrom fifo items (drain items)
 drain_allowed [] = ((refl, refl), tt)
 drain_allowed (x ∷ items) = ((refl, refl), drain_allowed items)
 
--- Only a queue of these items gives them up so.
+-- A queue that allows draining these items has these items.
 drained : (items others : List ℤ) → AllowedFrom fifo others (drain items) → items ≡ others
 drained [] [] h = refl
 drained [] (y ∷ others) h = let e = told (Deq None) (y ∷ others) h.0 in cc
@@ -50,7 +50,7 @@ drained (x ∷ items) [] h = let e = told (Deq (Some x)) [] h.0 in cc
 drained (x ∷ items) (y ∷ others) h = let e = told (Deq (Some x)) (y ∷ others) h.0 in let f =
     drained items others h.1 in cc
 
--- An operation is ranged where its argument and its recorded result are.
+-- An operation is ranged if its argument and its recorded result are.
 numbers : (op : QueueOp) → is_ranged op
     ≡ (has_ranged_arguments (call_of op) && is_ranged_answer (recorded_by op))
 numbers (Enq x) = sym (and-true (has_ranged_arguments (call_of (Enq x))) ∙ one_ranged x)

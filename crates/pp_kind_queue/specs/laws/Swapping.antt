@@ -22,8 +22,8 @@ may_swap_commutes a b t shape before allowed h k =
       turned.same,
     )
 
--- The lists show a pair that the table does not let swap: it is allowed in their midst, and not the
--- other way round.
+-- The lists refute a pair that the table does not allow to swap: between them it is allowed in this
+-- order, and not in the other.
 pair_refuted : (a b : QueueOp) → may_swap a b ≡ false
     → AllowedFrom fifo [] (before_pair a b ++ (a ∷ b ∷ after_pair a b))
 pair_refuted (Enq x) (Enq y) t = ((refl, refl), ((refl, refl), ((refl, refl), tt)))

@@ -7,13 +7,13 @@ use Rattle.pp_kind_queue.specs.Operations.{items_after}
 use Rattle.pp_kind_queue.specs.Movers.{may_swap}
 use Rattle.pp_kind_queue.specs.laws.Legal.{Tells}
 
--- The second and then the first tell the fronts that they find, and leave the same items.
+-- The second and then the first record the fronts that they find, and leave the same items.
 pub record Turns (a b : QueueOp) (items : List ℤ) : Type 0 where
   pub second_first : Tells b items
   pub first_second : Tells a (items_after items b)
   pub same : items_after (items_after items b) a ≡ items_after (items_after items a) b
 
--- A pair that the table lets swap may be turned wherever it is legal.
+-- A pair that the table allows to swap may be turned wherever it is legal.
 pub pair_turns : (a b : QueueOp) (items : List ℤ) → may_swap a b ≡ true → Tells a items
     → Tells b (items_after items a) → Turns a b items
 pair_turns (Enq x) (Enq y) items t h k = let e : x ≡ y = grind (arith, ints) in

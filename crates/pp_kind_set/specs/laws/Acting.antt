@@ -40,7 +40,7 @@ finds_legal s (Add k c) h = (refl, ap (λ (b : Bool). Truth (not b)) h ∙ ap Tr
 finds_legal s (Remove k c) h = (refl, ap Truth h)
 finds_legal s (Contains k c) h = (refl, ap Truth h)
 
--- What it leaves, and what it leaves when it is taken back.
+-- The state after an operation, and the state after it is taken back.
 next_at : (s : FinSet int_cmp) (a : SetOp) (q : ℤ) → IsLegal key_set s a
     → contains (set_after s a) q ≡ cond (int_eq q (key_of a)) (bit_after a) (contains s q)
 next_at s (Add k c) q h = inserted_at s k q
@@ -64,7 +64,7 @@ back_at s (Remove k false) q h = removed_at s k q
     ∙ stands_at (contains s) k q false (int_eq q k) refl (legal_finds s (Remove k false) h)
 back_at s (Contains k c) q h = refl
 
--- Operations of one call are given one answer.
+-- Operations of one call have one result in one state.
 same_given : (s : FinSet int_cmp) (a b : SetOp) → call_of a ≡ call_of b
     → given_by s a ≡ given_by s b
 same_given s (Add k c) (Add l d) h = ap (λ (c : Call). Truth (not (contains s c.first))) h
@@ -77,7 +77,7 @@ same_given s (Add k c) (Contains l d) h = let e = ap (λ (c : Call). c.method) h
 same_given s (Remove k c) (Add l d) h = let e = ap (λ (c : Call). c.method) h in cc
 same_given s (Contains k c) (Add l d) h = let e = ap (λ (c : Call). c.method) h in cc
 
--- An operation is ranged where its arguments and its recorded result are.
+-- An operation is ranged if its arguments and its recorded result are.
 numbers : (a : SetOp) → is_ranged a
     ≡ (has_ranged_arguments (call_of a) && is_ranged_answer (recorded_by a))
 numbers (Add k c) = sym (and-true (has_ranged_arguments (call_of (Add k c))) ∙ one_ranged k)

@@ -9,7 +9,7 @@ use Rattle.std.specs.FinMap.{int_cmp-IsAntisymmetric}
 use Rattle.pp_kind_set.specs.Keys.{contains, insert, remove}
 use Rattle.pp_kind_set.specs.Sets.{same_bit}
 
--- Bits are one where the test says so.
+-- Bits are equal exactly if the test says so.
 pub one_bit : (b c : Bool) → (same_bit b c ≡ true) ↔ (b ≡ c)
 one_bit true c = ((λ e. sym e), (λ e. sym e))
 one_bit false true = ((λ e. cc), (λ e. cc))

@@ -17,7 +17,7 @@ use Rattle.pp_kind_set.specs.Sets.{key_set, bits}
 use Rattle.pp_kind_set.specs.laws.Bits.{empty_at, one_bit}
 use Rattle.pp_kind_set.specs.laws.Acting.{set_keyed}
 
--- what holds of each form holds of each operation
+-- What is true for each form of operation is true for each operation.
 each_form : (P : SetOp → Type 0) → ((k : ℤ) → P (Add k true)) → ((k : ℤ) → P (Add k false))
     → ((k : ℤ) → P (Remove k true)) → ((k : ℤ) → P (Remove k false))
     → ((k : ℤ) → P (Contains k true)) → ((k : ℤ) → P (Contains k false)) → (a : SetOp) → P a

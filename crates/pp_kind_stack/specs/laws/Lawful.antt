@@ -47,7 +47,7 @@ drain_allowed (x ∷ below) =
     subst (λ (items : List ℤ). AllowedFrom stack items (drain (x ∷ below)))
     (sym (turned_over x below)) (drain_pushed x below (drain_allowed below))
 
--- Only a stack of these items gives them up so.
+-- A stack that allows draining these items has these items.
 drained : (tops others : List ℤ) → AllowedFrom stack others (drain tops) → reverse tops ≡ others
 drained [] others h = sym (no_top others (told (Pop None) others h.0))
 drained (x ∷ below) others h =
@@ -64,7 +64,7 @@ told_apart items others also =
     (subst (λ (l : List ℤ). AllowedFrom stack l (drain tops)) (reverse-reverse items)
     (drain_allowed tops)))
 
--- An operation is ranged where its argument and its recorded result are.
+-- An operation is ranged if its argument and its recorded result are.
 numbers : (op : StackOp) → is_ranged op
     ≡ (has_ranged_arguments (call_of op) && is_ranged_answer (recorded_by op))
 numbers (Push x) = sym (and-true (has_ranged_arguments (call_of (Push x))) ∙ one_ranged x)

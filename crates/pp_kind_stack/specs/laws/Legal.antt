@@ -69,7 +69,7 @@ pub legal_where_told : (op : StackOp) (items : List ℤ) → Tells op items → 
 legal_where_told (Push value) items h = (refl, refl)
 legal_where_told (Pop value) items h = (refl, ap answer_of h)
 
--- Operations of one call are given one answer.
+-- Operations of one call have one result in one state.
 pub same_given : (items : List ℤ) (a b : StackOp) → call_of a ≡ call_of b
     → given_by items a ≡ given_by items b
 same_given items (Push x) (Push y) h = refl

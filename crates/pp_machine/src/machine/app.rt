@@ -27,7 +27,7 @@ impl<S: Parted> Machine<S> {
         ensures bound { ticks.new ≤ ticks.old + 1 }
     {
         let parts = &mut *self.parts;
-        // Looked up first: while the course is lent, this can not be asked.
+        // Looked up first: this is not possible while the course is lent.
         let used = parts.ids.contains(id);
         let Some(course) = parts.transactions.course_mut(tx) else {
             return Ok((self, refused(bare(1))));

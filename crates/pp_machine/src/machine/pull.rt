@@ -66,7 +66,7 @@ impl<S: Parted> Machine<S> {
     {
         let parts = &mut *self.parts;
         let alloc = parts.alloc;
-        // Looked up first: while the course is lent, this can not be asked.
+        // Looked up first: this is not possible while the course is lent.
         let found = other_at(&parts.shared, tx, id);
         let Some(course) = parts.transactions.course_mut(tx) else {
             return Ok((self, refused(bare(1))));

@@ -26,7 +26,7 @@ module _ (k : Kind) where
       → IsLegal (object_of k) s a
   legal_out s a h = (fits k a, sym (gives_is k s a) ∙ h.1 ∙ recorded_is k a)
 
-  -- what is legal on a state of the kind is one of its operations
+  -- An act that is legal in a state of the kind is an operation of the kind.
   pub legal_act : (s : States k) (a : Act) → IsLegal one (state_of k s) a → (b : Ops k)
       × (a ≡ act_of k b)
   legal_act s a h = its_act k a (subst (λ (q : Kind). IsTrue (one.fits q a)) (has_kind k s) h.0)
@@ -69,7 +69,7 @@ module _ (k : Kind) where
       (subst (λ (t : ObjectState). AllowedFrom one t l) (next_is k s b.0) (subst P b.1 h.1)) in
       (b.0 ∷ m.0, ap (λ (y : Act). y ∷ l) b.1 ∙ ap (λ (z : List Act). act_of k b.0 ∷ z) m.1)
 
-  -- a list that is allowed from the start leads where its operations lead by themselves
+  -- An allowed list of acts leads to the state to which the kind's operations lead by themselves.
   pub reached_in : (before : List Act) → IsAllowed one k before → (m : List (Ops k))
       × (before ≡ map (act_of k) m) × IsAllowed (object_of k) tt m
       × (state_after one k before ≡ state_of k (state_after (object_of k) tt m))
@@ -85,7 +85,7 @@ module _ (k : Kind) where
             ∙ ap (λ (z : List Act). state_from one (state_of k s) z) m.1 ∙ state_in s m.0,
       )
 
-  -- a pair of the kind may be turned if it may be turned by itself
+  -- A pair of the kind may be turned if it may be turned in its kind.
   pub turned_in : (t : States k) (a b : Ops k) → MayTurn (object_of k) t a b
       → MayTurn one (state_of k t) (act_of k a) (act_of k b)
   turned_in t a b turned l h =

@@ -13,7 +13,7 @@ use Rattle.pp_objects.specs.laws.Kinds.{Ops, act_of, each_act, its_act, object_o
 use Rattle.pp_objects.specs.laws.One.{one_lawful, others_swap, reached_shape}
 use Rattle.pp_objects.specs.laws.Places as places
 
--- of each kind
+-- The clique of each kind swaps.
 swaps_of : (k : Kind) → CliqueSwaps (object_of k)
 swaps_of kinds.Memory a b h i = memories.clique_swaps a b h i
 swaps_of kinds.PriorityQueue a b h i = priorities.clique_swaps a b h i
@@ -35,7 +35,7 @@ acts_swap_by k a b true e h i =
     (sym (clique_is k c.0) ∙ sym (ap one.upkeep.in_clique c.1) ∙ i)))
 acts_swap_by k a b false e h i = others_swap k a b e
 
--- of acts, those of two kinds included
+-- Acts in the clique swap, also those of two kinds.
 acts_swap : (b a : Act) → IsTrue (one.upkeep.in_clique a) → IsTrue (one.upkeep.in_clique b)
     → Swaps one a b
 acts_swap b = each_act (λ a. IsTrue (one.upkeep.in_clique a) → IsTrue (one.upkeep.in_clique b)

@@ -51,7 +51,7 @@ module _ {X : Type 0} where
   same_list (x ∷ l) (y ∷ m) h = ap (λ (z : X). z ∷ l) (same_some x y (h zero))
       ∙ ap (λ (n : List X). y ∷ n) (same_list l m (λ p. h (suc p)))
 
-  -- what is at a place once something was done there
+  -- The element at a position after that element was changed.
   get_put_by : (f : X → X) (l : List X) (p : ℕ) (t : Option X) → slice_get l p ≡ t
       → slice_get (put l p (option_map f t)) p ≡ option_map f t
   get_put_by f l p None h = h

@@ -1,5 +1,5 @@
--- Proof machinery: the kinds, one by one. Each table has an arm for each kind, and what the laws
--- ask of a kind holds case by case.
+-- Proof machinery: the kinds, one by one. Each table has an arm for each kind, and the laws of a
+-- kind are proved case by case.
 use Rattle.std.proofs.Common.{◌≡◌, ℤ, false, IsTrue, List, None, refl, sym, ◌∙◌, subst}
 use Rattle.std.specs.Ordering.{int_cmp}
 use Rattle.std.specs.FinMap.{FinMap}
@@ -67,7 +67,7 @@ abbrev pub Undos : Kind → Type 0
 Undos kinds.Memory = Undo
 Undos k = Unit {0}
 
--- What it means by itself, and that it is lawful.
+-- The meaning of a kind by itself, and that it is lawful.
 abbrev pub object_of : (k : Kind) → Object (Unit {0}) (States k) (Ops k) (Undos k)
 object_of kinds.Memory = memory
 object_of kinds.KeySet = key_set
@@ -176,7 +176,7 @@ no_place kinds.PriorityQueue (prios.Insert v) = refl
 no_place kinds.PriorityQueue (prios.Take v) = refl
 no_place kinds.PriorityQueue (prios.Least v) = refl
 
--- What follows needs no arm of a new kind.
+-- The definitions below need no arm for a new kind.
 
 -- The states and the acts of a kind are its own alone.
 pub fits : (k : Kind) (a : Ops k) → IsTrue ((object_of k).fits tt a)
@@ -226,7 +226,7 @@ pub one_undo : (k : Kind) (u : Undos k) → undo_from k (undo_as k u) ≡ u
 one_undo kinds.Memory u = refl
 one_undo k u = refl
 
--- A state of the kind is that of a run if it is so by itself.
+-- A state of the kind is a state of some run if it is one in its kind.
 pub into_state : (k : Kind) (s : States k) → (object_of k).upkeep.IsState s
     → one.upkeep.IsState (state_of k s)
 into_state kinds.Memory s h = h
@@ -289,7 +289,7 @@ pub refuting_is : (k : Kind) (a b : Ops k)
 refuting_is kinds.Memory a b = refl
 refuting_is k a b = refl
 
--- What holds for the acts and the states of each kind holds for all.
+-- What is true for the acts and the states of each kind is true for all.
 pub each_act : (P : Act → Type 0) → ((k : Kind) (a : Ops k) → P (act_of k a)) → (a : Act) → P a
 each_act P h a = let b = own_act a in subst P (sym b.1) (h (kind_for a) b.0)
 

@@ -73,7 +73,7 @@ module _ (o : Object Kind ObjectState Act Undo) (laws : IsLawful o)
       (laws.taken_back t.0 x.act (states x.object t.0 t.1) t.2)
       ∙ set_own ss x.object t.0 t.1
 
-  -- states of one shape with another object at a place are told apart there
+  -- States of one shape that differ in the object at a place differ in what they allow.
   told_by : (ss ts : List ObjectState) (p : ℕ) (s t : Option ObjectState)
       → (many o).upkeep.IsState ss → (many o).upkeep.IsState ts → AllowsAllOf (many o) ss ts
       → slice_get ss p ≡ s → slice_get ts p ≡ t → option_map o.shape s ≡ option_map o.shape t

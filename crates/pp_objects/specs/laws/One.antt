@@ -21,7 +21,7 @@ use Rattle.pp_objects.specs.laws.Kinds.{refuting_is, start_is, state_of, undo_as
 use Rattle.pp_objects.specs.laws.Acts.{legal_out, legal_act, allowed_in, allowed_out, swaps_in}
 use Rattle.pp_objects.specs.laws.Acts.{swaps_out, ranged_in}
 
--- What is true if an operation of a kind is legal by itself is true if an act is legal.
+-- What is true for each legal operation of each kind is true for each legal act.
 pub each_legal : (P : ObjectState → Act → Type 0)
     → ((k : Kind) (t : States k) (a : Ops k) → IsLegal (object_of k) t a
     → P (state_of k t) (act_of k a)) → (s : ObjectState) (a : Act) → IsLegal one s a → P s a

@@ -28,7 +28,7 @@ let_by : (t there : Bool) → (t ≡ true → ⊥) → (if t then there else tru
 let_by true there other = absurd (other refl)
 let_by false there other = refl
 
--- whatever is let at one key, all is let at two
+-- Operations at two keys always swap, whatever swaps at one key.
 let_apart : (x y : ℤ) (there : Bool) → (x ≡ y → ⊥)
     → (if int_eq x y then there else true) ≡ true
 let_apart x y there other = let_by (int_eq x y) there (λ e. other (same_key x y e))

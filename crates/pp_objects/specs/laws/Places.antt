@@ -91,7 +91,7 @@ module _ (o : Object Kind ObjectState Act Undo) (laws : IsLawful o) where
             (next_there ss (act_at p a) s e) h.1,
       )
 
-  -- Acts on one object lead it where they lead it alone.
+  -- Acts on one object lead it to the state to which they lead it alone.
   pub state_at : (p : ℕ) (l : List Act) (ss : List ObjectState) (s : ObjectState)
       → slice_get ss p ≡ Some s → slice_get (state_from (many o) ss (map (act_at p) l)) p
       ≡ Some (state_from o s l)
@@ -99,7 +99,7 @@ module _ (o : Object Kind ObjectState Act Undo) (laws : IsLawful o) where
   state_at p (a ∷ l) ss s e = state_at p l ((many o).next ss (act_at p a)) (o.next s a)
       (next_there ss (act_at p a) s e)
 
-  -- what stays at another place
+  -- An operation keeps the object at another place.
   pub next_other : (ss : List ObjectState) (x : Op) (s : ObjectState) (p : ℕ)
       → slice_get ss x.object ≡ Some s → (p ≡ x.object → ⊥)
       → slice_get ((many o).next ss x) p ≡ slice_get ss p
@@ -166,7 +166,7 @@ module _ (o : Object Kind ObjectState Act Undo) (laws : IsLawful o) where
   seen_at p (x ∷ l) ss s e h = seen_by p l ss x s (same_place p x.object) e h.0
       (λ t f. seen_at p l ((many o).next ss x) t f h.1)
 
-  -- what is at a place at the start, by what is there later
+  -- The object at a place at the start has the kind of the object there later.
   pub start_at : (kinds : List Kind) (p : ℕ) (q : Kind) → slice_get kinds p ≡ Some q
       → slice_get (map o.start kinds) p ≡ Some (o.start q)
   start_at kinds p q e = slice_get-map o.start kinds p
@@ -178,7 +178,7 @@ module _ (o : Object Kind ObjectState Act Undo) (laws : IsLawful o) where
   shape_at ss p s e = slice_get-map o.shape ss p
       ∙ ap (λ (t : Option ObjectState). option_map o.shape t) e
 
-  -- what is reached is reached at each place
+  -- If the objects are reached, the object at each place is.
   pub reached_at : (ss : List ObjectState) (p : ℕ) (s : ObjectState) → slice_get ss p ≡ Some s
       → IsReached (many o) ss → IsReached o s
   reached_at ss p s e h =
@@ -199,7 +199,7 @@ module _ (o : Object Kind ObjectState Act Undo) (laws : IsLawful o) where
         few = omega arith;
       }
 
-  -- what was applied was applied at its place
+  -- If an operation was applied, its act was applied at its place.
   pub was_applied_at : (ss : List ObjectState) (x : Op) (u : Undo) (s : ObjectState)
       → slice_get ss x.object ≡ Some s → WasApplied (many o) x u ss → WasApplied o x.act u s
   was_applied_at ss x u s e h =
@@ -240,8 +240,8 @@ module _ (o : Object Kind ObjectState Act Undo) (laws : IsLawful o) where
   pub others_swap : (a b : Op) → (a.object ≡ b.object → ⊥) → Swaps (many o) a b
   others_swap a b apart = commuting_swap (many o) a b (others_commute a b apart)
 
-  -- if all that is allowed after s is allowed after t, all that is allowed where s is at a place is
-  -- allowed where t is
+  -- If t allows all that s allows, the objects with t at a place allow all that they allow with s
+  -- there.
   carried_by : (p : ℕ) (l : List Op) (ss : List ObjectState) (x : Op) (s t : ObjectState)
       → (p ≡ x.object) ⊎ (p ≡ x.object → ⊥) → slice_get ss p ≡ Some s → o.shape s ≡ o.shape t
       → AllowsAllOf o s t

@@ -3,7 +3,7 @@ use Rattle.pp_machine.specs.Transactions.{open_of}
 use Rattle.pp_machine.proofs.Slots.{kept_as, kept_used, not_there, seen_same, seen_used}
 use Rattle.pp_machine.proofs.transactions.Transactions.use_name.Goals as goal
 
--- what holds, holds on an error
+-- A fact is true also on an error.
 on_err : {T E P : Type 0} (r : Result T E) → P → OnErr r P
 on_err (Ok x) p = tt
 on_err (Err e) p = p
