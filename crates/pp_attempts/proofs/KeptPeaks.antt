@@ -100,7 +100,7 @@ no_peaks {Op} t past (s ∷ ss) none q i e =
       | inr r ↦ r.1 refl
     ]
 
--- what a peak has was applied
+-- The operations of a peak were applied.
 applied_within : {Op : Type 0} (past ss : List (Step Op)) (p : Peak Op) (i : Item Op) → In p (peaks_behind past ss) → In i p.ops → In (App p.tx i.id i.op) (past ++ ss)
 applied_within past [] p i n m = absurd n
 applied_within {Op} past (s ∷ ss) p i n m =
@@ -151,7 +151,7 @@ short_within {Op} past (s ∷ ss) p n =
 pub peak_short : {Op : Type 0} (ss : List (Step Op)) (p : Peak Op) → In p (peaks ss) → length p.ops ≤ length ss
 peak_short ss p n = let short = short_within [] ss p n in omega (arith, short)
 
--- where the peak is among the peaks
+-- The peak is one of the peaks.
 stands : {Op : Type 0} (t : Name) (id : ℕ) (op : Op) (before xs rest : List (Step Op)) → goes_on t rest ≡ false
     → (front : List (Peak Op)) × (peaks_behind before (xs ++ App t id op ∷ rest)
     ≡ front ++ peak_behind t ((before ++ xs) ++ App t id op ∷ []) ∷ peaks_behind ((before ++ xs) ++ App t id op ∷ []) rest)

@@ -109,7 +109,7 @@ module _ {Shape State Op Undo : Type 0} (o : Object Shape State Op Undo) (ps : L
       nowhere [] i none n = n
       nowhere (c ∷ cs) i none n = omega (arith, none)
 
-  -- a transaction without operations gives no peak a number
+  -- A transaction without operations leaves no peak with a new number.
   pub same_round : (shape : Shape) (D : List (CommittedTx Op)) (n m : ℕ) (s : State) (vs : List View) → m ≡ n + 1 → IsStateAt o shape D n s → IsStateAt o shape D m s
       → Pairwise (IsViewBelow m (rules_of o shape) D) ps vs → Pairwise (IsViewBelow (m + 1) (rules_of o shape) D) ps vs
   same_round shape D n m s vs is before behind h = pairwise_as (IsViewBelow m O D) (IsViewBelow (m + 1) O D) (λ p v now. record { tx = now.tx; ops = now.ops; after = by p v.after now.after }) ps vs h
@@ -129,8 +129,8 @@ module _ {Shape State Op Undo : Type 0} (o : Object Shape State Op Undo) (ps : L
 
   -- ---- a round, while the peaks at the positions are tried
 
-  -- Some were tried, and those at the positions `rest` were not yet: their views are as they were, as is
-  -- each that has no number; and each other view tells the least number, this one included.
+  -- Some were tried, and those at the positions `rest` were not yet. Their views are as they were, and so is each without a number. Each
+  -- other view has the least number, this one included.
   module _ (number : ℕ) (state : State) (old : List View) where
     pub record AreViewsSoFar (views : List View) (rest : List ℕ) : Type 0 where
       pub long : length views ≡ length old

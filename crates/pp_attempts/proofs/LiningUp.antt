@@ -127,7 +127,7 @@ positions_permuted ps n is js p h = record {
 
 -- ---- each begins as the one before it
 
--- what is at no position
+-- A candidate for positions outside the list.
 abbrev pub nobody : Candidate
 nobody = record { position = 0; shared = 0; from = 0; to = 0 }
 
@@ -192,7 +192,7 @@ rests_more {Op} ps l m more cs ds d p h added pushed here shared from to rest = 
           ∙ ap (λ (w : List Op). take (d.to - d.from) w) (drop-append_seam l m) ∙ take_all (d.to - d.from) m (omega (arith, from, to, long)) ∙ rest;
     }
 
--- what is shared no more, and what was not shared before
+-- The operations that are no longer shared, followed by those that were not shared before.
 pub rests_joined : {Op : Type 0} (items : List (Item Op)) (a n : ℕ) → a ≤ n → ops (take (n - a) (drop a items)) ++ ops (drop n items) ≡ ops (drop a items)
 rests_joined {Op} items a n less =
     let all : a + (n - a) ≡ n = omega (arith, less) in

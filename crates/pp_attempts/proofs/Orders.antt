@@ -86,7 +86,7 @@ module _ {Op : Type 0} (past rest : List (Step Op)) (s : Step Op) (orderly : IsO
       in_last q [] = inl refl
       in_last q (x ∷ l) = inr (in_last q l)
 
-  -- what is undone is the last that is there, and its id is there once
+  -- An operation that is undone is the last of the own list, and its id occurs once.
   undone_once : (t : Name) (id : ℕ) → s ≡ Unapp t id → (p : Item Op) × (last (own_of t past) ≡ Some p) × (p.id ≡ id)
       × ((q : Item Op) → In q (but_last (own_of t past)) → q.id ≢ id)
   undone_once t id is =

@@ -109,7 +109,7 @@ module _ {Op State : Type 0} (O : Object Op State) where
     pub traced_there : (ss : List (Step Op)) → RunsFrom O (first h) ss → Traced O h ss (after h ss)
     traced_there ss r = run_traced h ss [] (first h) (start_sound O h met) (start_traced h) r
 
-    -- what holds right before a step
+    -- The facts right before a step.
     module _ (ss past rest : List (Step Op)) (s : Step Op) (run : RunsFrom O (first h) ss) (there : ss ≡ past ++ s ∷ rest) where
       whole : RunsFrom O (first h) (past ++ s ∷ rest)
       whole = subst (λ (w : List (Step Op)). RunsFrom O (first h) w) there run

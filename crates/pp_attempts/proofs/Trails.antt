@@ -206,7 +206,7 @@ module _ {Shape State Op Undo : Type 0} (o : Object Shape State Op Undo) where
     not_allowed less allowed = h.stops less (allowed-first o s (take (length done + 1) l) (drop (length done + 1) l)
         (subst (λ (w : List Op). AllowedFrom o s w) (sym (take-append-drop (length done + 1) l)) allowed))
 
-    -- what failed is shared by another list
+    -- If the operation that failed is shared by another list, it fails there too.
     pub fails_alike : (m : List Op) (n : ℕ) → Share n l m → n ≤ length l → n ≤ length m → length done < n → IsFurthest o s m done t
     fails_alike m n alike left right less = record {
       stands = h.stands;

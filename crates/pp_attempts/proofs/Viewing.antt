@@ -112,11 +112,11 @@ serial_within {Op} D i =
     let cut = ap (λ (w : List Op). length w) (serial_cut D i) in
     omega (arith, cut, length-append (serial_ops (take i D)) (serial_ops (drop i D)))
 
--- what a walk has cost so far is within the bound
+-- The ticks of a walk so far are within the bound.
 pub cost_so_far : (old t done all i n w : ℕ) → t ≤ old + done + 2 * ((i + 1) * w) → done ≤ all → i ≤ n → t ≤ old + all + 2 * ((n + 1) * w)
 cost_so_far old t done all i n w cost part within = omega (arith, cost, part, rounds_within i n w within)
 
--- a peak that is there has so many operations, so what is asked of each bounds the serial run
+-- If there is a peak, the bound on its operations bounds the serial run.
 pub few_alone : {Op : Type 0} (n : ℕ) (ps : List (Peak Op)) → (length ps ≡ 0 → ⊥) → ((p : Peak Op) → In p ps → n + length p.ops < 1_000_000) → n < 1_000_000
 few_alone n [] some h = absurd (some refl)
 few_alone n (p ∷ ps) some h = let few = h p (inl refl) in omega (arith, few)

@@ -1,4 +1,4 @@
--- Meaning: what holds of the peaks of accepted runs, and of their views.
+-- Meaning: facts about the peaks of accepted runs, and about their views.
 use Rattle.std.specs.Prelude.{◌≡◌, ◌≤◌, ◌+◌, ℕ, false, List, [], ◌∷◌, ◌++◌, length, map, Option}
 use Rattle.std.specs.Prelude.{Some}
 use Rattle.pp_model.specs.Config.{CommittedTx, Start, Step, App, first}
@@ -28,7 +28,7 @@ pub record IsLastOfItsTx {Op : Type 0} (p : Peak Op) (ps : List (Peak Op)) : Typ
   pub there : ps ≡ before ++ p ∷ behind
   pub last : (q : Peak Op) → In q behind → q.tx ≡ p.tx → ⊥
 
--- What a peak has was applied: by its transaction, in a step of the run.
+-- The operations of a peak were applied by its transaction, in a step of the run.
 abbrev pub AppliedLaw : Type 0 → Type 0
 AppliedLaw Op =
     (ss : List (Step Op)) (p : Peak Op) (i : Item Op) → In p (peaks ss) → In i p.ops

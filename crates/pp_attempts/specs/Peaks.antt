@@ -17,7 +17,7 @@ use Rattle.pp_attempts.specs.declared.peak.PeakFault.TheVariants.{TooMany, OutOf
 abbrev pub meanings : {Op : Type 0} → List (StepOf Op) → List (Step Op)
 meanings list = map meaning list
 
--- Of t's APP and UNAPP steps among these the first is an APP.
+-- The first of t's APP and UNAPP steps among these is an APP.
 abbrev pub goes_on : {Op : Type 0} → Name → List (Step Op) → Bool
 goes_on t [] = false
 goes_on t (App u id op ∷ ss) = cond (u =ⁿ t) true (goes_on t ss)
@@ -57,8 +57,8 @@ peaks ss = peaks_behind [] ss
 abbrev pub operations : {Op : Type 0} → List (Peak Op) → ℕ
 operations ps = sum (map (λ p. length p.ops) ps)
 
--- Too many are reported only if all together have more than asked for, and how many; since the
--- peaks are reported only if they have not, exactly then.
+-- Too many are reported only if all together have more than the limit, and with their number. Since
+-- the peaks are reported only if they have not, this is exact.
 abbrev pub IsFaultOf : ℕ → ℕ → PeakFault → Type 0
 IsFaultOf n most (TooMany count) = (count ≡ n) × (most < n)
 IsFaultOf n most OutOfMemory = Unit {0}
@@ -69,7 +69,7 @@ IdsTell {Op} ps =
     (p q : Peak Op) (i j : Item Op) → In p ps → In q ps → In i p.ops → In j q.ops → i.id ≡ j.id
     → i ≡ j
 
--- What the steps of an accepted run have.
+-- The facts about the steps of an accepted run.
 pub record IsOrderly {Op : Type 0} (ss : List (Step Op)) : Type 0 where
   -- no id is in two APP steps
   pub once : (t u : Name) (id : ℕ) (a b : Op) → Before (App t id a) (App u id b) ss → ⊥

@@ -53,11 +53,11 @@ AreAlikeTo {Op} ps before (c ∷ cs) n behind =
     (p : Peak Op) → StandsAt ps c.position p → Share c.shared before p.ops
     × AreAlikeTo ps p.ops cs n behind
 
--- of the last nothing is asked
+-- there is no condition on the last one
 abbrev pub AreAlike : {Op : Type 0} → List (Peak Op) → List (Item Op) → List Candidate → Type 0
 AreAlike ps before cs = AreAlikeTo ps before cs 0 []
 
--- The operations of these items that the candidate does not share are where it says among those
+-- The operations of these items that the candidate does not share are at its positions among those
 -- of the candidates.
 pub record HasRest {Op : Type 0} (l : List Op) (c : Candidate) (items : List (Item Op)) : Type 0
   where
@@ -104,7 +104,7 @@ abbrev pub applied : {Op Undo : Type 0} → List (AppliedOp Op Undo) → List Op
 applied done = map (λ d. d.op) done
 
 module _ {Shape State Op Undo : Type 0} (o : Object Shape State Op Undo) where
-  -- what is kept of these operations, one after another from the state s
+  -- the undo values of these operations, one after another from the state s
   abbrev pub kept_from : State → List Op → List Undo
   kept_from s [] = []
   kept_from s (a ∷ x) = o.upkeep.kept s a ∷ kept_from (o.next s a) x
@@ -115,12 +115,12 @@ module _ {Shape State Op Undo : Type 0} (o : Object Shape State Op Undo) where
     pub kept : undos ≡ kept_from s x
     pub leads : t ≡ state_from o s x
 
-  -- What was applied led from the state s to t, and can be taken back.
+  -- The applied operations led from the state s to t, and can be taken back.
   abbrev pub Stands : State → List (AppliedOp Op Undo) → State → Type 0
   Stands s done t = IsTrail s (applied done) (map (λ d. d.undo) done) t
 
-  -- What was applied is the beginning of the list, as far as it is allowed from the state s, and led
-  -- to t.
+  -- The applied operations are the beginning of the list, as far as it is allowed from the state s,
+  -- and led to t.
   pub record IsFurthest (s : State) (l : List Op) (done : List (AppliedOp Op Undo))
       (t : State) : Type 0 where
     pub stands : Stands s done t

@@ -40,8 +40,8 @@ abbrev pub AreViews : {Op State : Type 0} → model.Object Op State → List (Co
     → List (Peak Op) → List View → Type 0
 AreViews O committed ps vs = Pairwise (IsViewBelow (length committed + 1) O committed) ps vs
 
--- What is asked of the operations of a peak, with so many before them: they are of this shape and
--- ranged, and all together are fewer than a million.
+-- The conditions on the operations of a peak, with this many before them: they are of this shape
+-- and ranged, and all together are fewer than a million.
 pub record MayBeTried {Shape State Op Undo : Type 0} (o : Object Shape State Op Undo)
     (shape : Shape) (before : ℕ) (items : List (Item Op)) : Type 0 where
   pub fit : Each (λ op. IsTrue (o.fits shape op)) (ops items)

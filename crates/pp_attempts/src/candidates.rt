@@ -11,19 +11,19 @@ use std::alloc::Global;
 /// A peak that is tried.
 #[derive(Clone, Copy)]
 pub(crate) struct Candidate {
-    /// Where the peak is among all.
+    /// The position of the peak among all.
     pub(crate) position: usize,
     /// How many operations, from the first on, it has in common with the candidate before it. They
     /// may have more.
     pub(crate) shared: usize,
-    /// Where its other operations begin among `ops`.
+    /// The start of its other operations in `ops`.
     pub(crate) from: usize,
-    /// Where they end.
+    /// The end of them.
     pub(crate) to: usize,
 }
 
-/// Candidates in the order in which they are tried, and beside them the operations that each does
-/// not share with the one before it, in the same order, so that a round reads them in a row.
+/// Candidates in the order in which they are tried, with the operations that each does not share
+/// with the one before it, in the same order, so that a round reads them in a row.
 #[derive(Drop)]
 pub(crate) struct Candidates<O: Copy> {
     pub(crate) list: Vec<Candidate>,

@@ -4,13 +4,13 @@ ghost use Rattle.pp_attempts.specs.Laws.{AppliedLaw, KeptPeakLaw, OneViewLaw, Or
 
 use pp_kind::Spec;
 
-/// What each peak has was applied by its transaction.
+/// The operations of each peak were applied by its transaction.
 pub fn applied_law<S: Spec>()
     ensures { AppliedLaw S.Op }
 {}
 
-/// The steps of an accepted run are orderly, as `peaks_of` asks; that they are at most 200,000 is
-/// the limit of a run.
+/// The steps of an accepted run are orderly, as `peaks_of` requires. That they are at most 200,000
+/// is the limit of a run.
 pub fn orderly_law<S: Spec>()
     ensures { (shape : S.Shape) → OrderlyLaw (rules_of S.object shape) }
 {}

@@ -1,5 +1,5 @@
-//! What each attempt of a run had applied, and after how many committed transactions its results
-//! are what the object returns.
+//! The operations that each attempt of a run had applied, and after how many committed transactions
+//! its results are what the object returns.
 #![tactic(auto)]
 
 mod candidates;

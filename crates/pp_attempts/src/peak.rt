@@ -8,8 +8,8 @@ use crate::top::tops;
 use pp_core::{Items, Name, OutOfMemory, Sequence, Step};
 use std::alloc::{AllocError, Global};
 
-/// What a transaction had applied when it went no further: its next step that applies or undoes an
-/// operation undoes one, or it has no such step.
+/// The operations that a transaction had applied when it went no further: its next step that
+/// applies or undoes an operation undoes one, or it has no such step.
 #[derive(Drop)]
 pub struct Peak<O: Copy> {
     pub tx: Name,
@@ -22,7 +22,7 @@ pub type Peaks<O> = Sequence<Peak<O>>;
 /// Why there are no peaks.
 #[derive(Drop)]
 pub enum PeakFault {
-    /// All peaks have more operations than asked for, this many.
+    /// All peaks together have more operations than the limit, this many.
     TooMany { count: u64 },
     /// Out of memory.
     OutOfMemory,

@@ -1,4 +1,4 @@
-//! Trying operations from a state, as far as each gives its recorded result.
+//! Trying operations from a state, until one does not return its recorded result.
 ghost use Rattle.std.specs.Prelude.{◌≡◌, ◌++◌, ◌+◌, ◌↔◌, ◌≤◌, IfOk, IsTrue, OnOk, length, take};
 ghost use Rattle.pp_attempts.specs.Trying.{IsFurthest, MayFollow, Stands, applied};
 

@@ -70,11 +70,11 @@ fn apply_committed<S: Spec, L: Ledger>(
     Ok(())
 }
 
-/// Tries the candidates after so many committed transactions, one after another: a peak whose
-/// operations all give their results, and that has no number, gets the number of these, and a peak
-/// that has one keeps it. It answers whether any peak got one. Of what was applied for a candidate, as much stays as the next one shares.
-/// If the operation that failed is one that the next one shares, that one fails too, and is
-/// passed over. In the end all is taken back.
+/// Tries the candidates after this many committed transactions, one after another. A peak without a
+/// number, whose operations all return their results, gets this number; a peak that has one keeps
+/// it. Returns whether any peak got one. Of the operations applied for a candidate, as many stay as
+/// the next one shares. If the operation that failed is one that the next one shares, that one
+/// fails too, and is skipped. In the end all is taken back.
 fn try_all<S: Spec, L: Ledger>(
     state: &mut S::State,
     done: &mut Vec<AppliedOp<S::Op, S::Undo>>,

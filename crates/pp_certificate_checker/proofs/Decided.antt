@@ -20,7 +20,7 @@ use Rattle.pp_certificate_checker.specs.Certificates.{IsClosing, IsRead}
 use Rattle.pp_certificate_checker.proofs.Checked.{ok_is, not_ok}
 use Rattle.pp_certificate_checker.proofs.Pairs.{at_pair_both, at_pair_within, at_pair_decided, at_pair_named}
 
--- two answers are one, or not
+-- Two results are equal, or not.
 same_truths : (a b : Bool) → (answers.Truth a ≡ answers.Truth b)
     ⊎ (answers.Truth a ≢ answers.Truth b)
 same_truths true true = inl refl

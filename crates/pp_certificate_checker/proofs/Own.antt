@@ -232,7 +232,7 @@ module _ {Shape State Op Undo : Type 0} (o : Object Shape State Op Undo) (laws :
       (subst (λ (w : List ℕ). IsOf t (entries_of before ++ entries_of more)
       (positions_of before ++ positions_of more) w) (sym (serials-append before more)) there))
 
-  -- what is shown at the end is that of all that was said
+  -- The verdict at the end is that of all lines.
   record Shows {L : Type 0} (read : Reader L Shape Op) (s : Stage Shape Op) (lines : List L)
       (before : List (Line Shape Op)) (h : Shown Shape State Op) : Type 0 where
     pub said : List (Line Shape Op)
@@ -271,7 +271,7 @@ module _ {Shape State Op Undo : Type 0} (o : Object Shape State Op Undo) (laws :
         shows = k.shows;
       }
 
-  -- what was shown is what was said, part by part
+  -- Verdicts with equal parts are equal.
   shown_is : (shape : Shape) (l m : List (Item Op)) (i j n : ℕ) → l ≡ m → i ≡ j
       → shown o shape l i n ≡ shown o shape m j n
   shown_is shape l m i j n e f =

@@ -12,7 +12,7 @@ module _ {A : Type 0} where
   at_pair_map P Q f (a ∷ b ∷ l) zero h = f a b h
   at_pair_map P Q f (a ∷ b ∷ l) (suc i) h = at_pair_map P Q f (b ∷ l) i h
 
-  -- what two facts of one pair give
+  -- Two facts about one pair imply a third, if they do for all elements.
   pub at_pair_both : (P Q : A → A → Type 0) (C : Type 0) → ((a b : A) → P a b → Q a b → C) →
       (l : List A) (i : ℕ) → AtPair P l i → AtPair Q l i → C
   at_pair_both P Q C f [] i h k = elim h [ ]

@@ -216,7 +216,7 @@ module _ {Shape State Op Undo : Type 0} (o : Object Shape State Op Undo) where
             subst (λ (w : List Op). IsAllowed o shape w) (sym (ops_of c.shared))
             sound.shared_allowed
 
-        -- what is shown, part by part
+        -- The verdict, part by part.
         holds : (last : List (Item Op)) (count : ℕ) (list : List (Item Op)) (long X : ℕ)
             (S : List (Item Op)) → length last ≡ long → count ≡ X → list ≡ S
             → showing shape (length last) count list ≡ showing shape long X S

@@ -14,7 +14,7 @@ pub use Rattle.pp_certificate_checker.specs.declared.refusal.Refusal.TheVariants
 pub use Rattle.pp_certificate_checker.specs.declared.refusal.Refusal.TheVariants.{Position, Pair}
 pub use Rattle.pp_certificate_checker.specs.declared.shown.Shown.{Shown}
 
--- What was read so far.
+-- The part of a certificate that was read so far.
 pub data Stage (Shape Op : Type 0) : Type 0 where
   -- nothing
   Fresh : Stage Shape Op
@@ -54,7 +54,7 @@ IsClosing n None v = v ≡ Refused n NotCertificate
 IsClosing n (Some h) v = v ≡ Holds h
 
 module _ {Shape State Op Undo : Type 0} (o : Object Shape State Op Undo) where
-  -- what the object returns for an operation after a list
+  -- the object's result for an operation after a list
   abbrev pub given : Shape → List (Item Op) → Op → Answer
   given shape list op = o.gives (state_after o shape (ops list)) op
 
@@ -104,7 +104,7 @@ module _ {Shape State Op Undo : Type 0} (o : Object Shape State Op Undo) where
   IsSerialTaken (Exchanged shape list count) n r = IsEnded shape list count n r
   IsSerialTaken (Ended shape list count m) n r = r ≡ Err NotCertificate
 
-  -- What one line does. A blank line does nothing, wherever it is.
+  -- The effect of one line. A blank line has none, wherever it is.
   abbrev pub IsTaken : Stage Shape Op → Line Shape Op → Step Shape Op → Type 0
   IsTaken s Blank r = r ≡ Ok s
   IsTaken s (Head shape) r = IsHeadTaken s shape r
@@ -113,7 +113,7 @@ module _ {Shape State Op Undo : Type 0} (o : Object Shape State Op Undo) where
   IsTaken s (Serial n) r = IsSerialTaken s n r
   IsTaken s Other r = r ≡ Err NotCertificate
 
-  -- What the first n entries of the last list show.
+  -- The verdict that the first n entries of the last list show.
   abbrev pub shown : Shape → List (Item Op) → ℕ → ℕ → Shown Shape State Op
   shown shape list count n = record {
     shape = shape;
@@ -123,7 +123,7 @@ module _ {Shape State Op Undo : Type 0} (o : Object Shape State Op Undo) where
     state = state_after o shape (ops (take n list));
   }
 
-  -- What is shown at the end, if a serial number was read.
+  -- The verdict at the end, if a serial number was read.
   abbrev pub shown_at : Stage Shape Op → Option (Shown Shape State Op)
   shown_at Fresh = None
   shown_at (Entered shape list) = None

@@ -7,7 +7,7 @@ use Rattle.pp_certificate_checker.specs.Certificates.{Line, Blank, Head, Entry, 
 use Rattle.pp_certificate_checker.specs.Certificates.{Stage, Fresh, Entered, Exchanged, Ended, Refusal}
 use Rattle.pp_certificate_checker.specs.Certificates.{IsTaken}
 
--- What was read so far, and how many lines were taken.
+-- The part that was read so far, and how many lines were taken.
 pub record ReadSoFar (Shape Op : Type 0) : Type 0 where
   pub stage : Stage Shape Op
   pub lines : ℕ
@@ -20,8 +20,8 @@ serial_in (Exchanged shape list count) = 0
 serial_in (Ended shape list count n) = n
 
 module _ {Shape State Op Undo : Type 0} (o : Object Shape State Op Undo) where
-  -- What is asked of a line: the numbers of an entry lie in the range of records, and there are 1 to
-  -- a thousand positions.
+  -- The conditions on a line: the numbers of an entry are in the range of records, and there are 1
+  -- to a thousand positions.
   abbrev pub IsReadable : Line Shape Op → Type 0
   IsReadable Blank = Unit {0}
   IsReadable (Head shape) = Unit {0}

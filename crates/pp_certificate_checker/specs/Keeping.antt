@@ -30,7 +30,7 @@ module _ {Shape State Op Undo : Type 0} (o : Object Shape State Op Undo) where
     pub short : length list ≤ lines
     pub few : count ≤ 1000 * lines
 
-  -- What is kept after so many lines.
+  -- The invariant of the checker after this many lines.
   abbrev pub IsHeld : Held Shape State Op → ℕ → Type 0
   IsHeld held.Nothing n = Unit {0}
   IsHeld (held.Entries shape list state) n =

@@ -1,4 +1,4 @@
--- Meaning: what holds of every certificate, and of those that are written.
+-- Meaning: facts about every certificate, and about those that are written.
 use Rattle.std.specs.Prelude.{◌≡◌, ◌+◌, ◌<◌, ◌≤◌, ℕ, zero, suc, Bool, IsTrue, Ok}
 use Rattle.std.specs.Prelude.{List, [], ◌∷◌, ◌++◌, map, length, take, drop}
 use Rattle.pp_model.specs.Lists.{Each}
@@ -41,8 +41,8 @@ IsAllowedSoFar o (Entered shape list) = IsAllowed o shape (ops list)
 IsAllowedSoFar o (Exchanged shape list count) = IsAllowed o shape (ops list)
 IsAllowedSoFar o (Ended shape list count n) = IsAllowed o shape (ops list)
 
--- What the lines of a certificate keep: the list so far is allowed, and exchanges keep it in the
--- range of records.
+-- The invariant of the lines of a certificate: the list so far is allowed, and exchanges keep it in
+-- the range of records.
 pub record TakenLaw {Shape State Op Undo : Type 0} (o : Object Shape State Op Undo) : Type 0 where
   pub step : (s t : Stage Shape Op) (line : Line Shape Op)
       → IsAllowedSoFar o s → IsTaken o s line (Ok t) → IsAllowedSoFar o t
@@ -125,7 +125,7 @@ certificate_of write shape c =
     certificate write shape (log_of c) (route (log_of c) (target_of c))
     (length (serial_items c.done))
 
--- what it shows
+-- the verdict that it shows
 abbrev pub shown_of : {Shape State Op Undo : Type 0} → Object Shape State Op Undo
     → Shape → Config Op → Shown Shape State Op
 shown_of o shape c = record {

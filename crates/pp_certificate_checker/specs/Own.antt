@@ -47,8 +47,8 @@ AreSaid {Shape} {State} {Op} o read s (line ∷ lines) (said ∷ more) =
     (said ≡ read s line)
     × ((t : Stage Shape Op) × IsTaken o s said (Ok t) × AreSaid o read t lines more)
 
--- What is shown are the entries of the lines, exchanged at the positions of the lines, as many as
--- the one serial number says. In the order of the lines the entries are allowed, and each pair that
+-- The verdict has the entries of the lines, exchanged at the positions of the lines, as many as the
+-- one serial number says. In the order of the lines the entries are allowed, and each pair that
 -- changes places swaps.
 pub record ShowsOwn {Shape State Op Undo L : Type 0} (o : Object Shape State Op Undo)
     (read : Reader L Shape Op) (lines : List L) (h : Shown Shape State Op) : Type 0 where

@@ -129,7 +129,8 @@ impl<S: Spec> Checker<S> {
         }
     }
 
-    /// What the lines show, if a serial number is among them. The only error is out of memory.
+    /// The verdict that the lines show, if a serial number is among them. The only error is out of
+    /// memory.
     pub fn close<L: Ledger>(
         self,
         ticks: &mut Ticks<L>,

@@ -1,4 +1,4 @@
-//! What a checker keeps of the lines that were taken.
+//! The data that a checker keeps of the lines that were taken.
 ghost use Rattle.pp_certificate_checker.specs.Keeping.{IsHeld, GoesOn};
 
 use pp_core::Item;
@@ -12,7 +12,7 @@ pub(crate) struct Turned<H: Drop, O: Copy> {
     pub(crate) count: u32,
 }
 
-/// What is kept of the lines that were taken.
+/// The data of the lines that were taken.
 #[derive(Drop)]
 pub(crate) enum Held<H: Drop, T: Drop, O: Copy> {
     Nothing,

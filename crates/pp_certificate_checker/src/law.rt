@@ -9,7 +9,7 @@ pub fn checked_law<S: Spec, L>()
     ensures { CheckedLaw S.object L }
 {}
 
-/// What each line that is taken keeps.
+/// The invariant that each taken line keeps.
 pub fn taken_law<S: Spec>()
     ensures { TakenLaw S.object }
 {}

@@ -1,5 +1,5 @@
-//! A checker of certificates, which tell in which order of its entries a log may be run. It asks
-//! the sequential objects and their movers alone, and knows no machine.
+//! A checker of certificates, which say in which order of its entries a log may be run. It uses the
+//! sequential objects and their movers only, and knows no machine.
 #![tactic(auto)]
 
 mod checker;

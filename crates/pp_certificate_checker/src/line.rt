@@ -2,7 +2,7 @@
 use pp_certificate_exchanges::Positions;
 use pp_core::Item;
 
-/// What a line says in its place.
+/// The content of a line in its place.
 #[derive(Drop)]
 pub enum Line<H: Drop, O: Copy> {
     /// It is blank.

@@ -1,4 +1,4 @@
-//! What a certificate shows.
+//! The verdict that a certificate shows.
 ghost use Rattle.std.specs.Prelude.{◌≡◌, ◌+◌, ◌<◌, ◌≤◌, IfOk, OnOk, length};
 ghost use Rattle.pp_model.specs.Object.{ops};
 ghost use Rattle.pp_kind.specs.Object.{IsAllowed, AllRanged};
@@ -11,7 +11,7 @@ use pp_kind::{Spec, state_after};
 use std::alloc::Global;
 use std::sync::ledger::Ledger;
 
-/// What a certificate shows whose lines were all taken.
+/// The verdict of a certificate whose lines were all taken.
 #[derive(Drop)]
 pub struct Shown<H: Drop, T: Drop, O: Copy> {
     /// The objects that the first line names.
@@ -26,8 +26,8 @@ pub struct Shown<H: Drop, T: Drop, O: Copy> {
     pub state: T,
 }
 
-/// What the first entries of the list show, as many as the serial number says. The only error is
-/// out of memory.
+/// The verdict that the first entries of the list show, as many as the serial number says. The only
+/// error is out of memory.
 pub(crate) fn show<S: Spec, L: Ledger>(
     alloc: Global,
     turned: Turned<S::Shape, S::Op>,

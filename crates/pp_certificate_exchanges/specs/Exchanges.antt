@@ -37,7 +37,7 @@ abbrev pub after_exchanges : {A : Type 0} → List A → List ℕ → List A
 after_exchanges x [] = x
 after_exchanges x (i ∷ is) = after_exchanges (exchanged x i) is
 
--- There are entries at the positions i and i + 1, and R holds of them.
+-- There are entries at the positions i and i + 1, and R is true for them.
 abbrev pub AtPair : {A : Type 0} → (A → A → Type 0) → List A → ℕ → Type 0
 AtPair R [] i = ⊥
 AtPair R (a ∷ []) i = ⊥

@@ -1,4 +1,4 @@
--- Meaning: what holds of routes, of exchanges that swap, and of the shared log.
+-- Meaning: facts about routes, about exchanges that swap, and about the shared log.
 use Rattle.std.specs.Prelude.{◌≡◌, ℕ, List, ◌++◌, map, length}
 use Rattle.pp_model.specs.Object as model
 use Rattle.pp_model.specs.Object.{Allowed, Item, ops, Reorders}

@@ -17,7 +17,7 @@ pub type Positions = Sequence<u32>;
 /// Why there is no route.
 #[derive(Drop)]
 pub enum SwapFault {
-    /// There are more inverted pairs than asked for, this many.
+    /// There are more inverted pairs than the limit, this many.
     TooMany { count: u64 },
     /// Out of memory.
     OutOfMemory,

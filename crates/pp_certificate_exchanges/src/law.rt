@@ -21,7 +21,7 @@ pub fn order_law<S: Spec>()
     ensures { (shape : S.Shape) → OrderLaw (rules_of S.object shape) }
 {}
 
-/// What `exchanges` asks holds of the shared log and its target.
+/// The shared log and its target meet the precondition of `exchanges`.
 pub fn target_law<S: Spec>()
     ensures { TargetLaw S.object }
 {}

@@ -1,4 +1,4 @@
-//! A row of counts that tells how much the counts before a place of it are together.
+//! A row of counts, with the sum of the counts before each position.
 ghost use Rattle.std.specs.Prelude.{◌≡◌, ◌^◌, ◌<◌, IfOk, length, sum, take, slice_index};
 ghost use Rattle.pp_certificate_exchanges.specs.Towers.{base, IsSummed, pairs, one_less};
 

@@ -1,4 +1,4 @@
--- What the tests before the last leave of a record's call.
+-- The facts about a record's call after the tests before the last one.
 use Rattle.std.proofs.Common.{◌≡◌, ◌&&◌, ℤ, Bool, true, false, IsTrue, List, nat_lt, Some, refl, ap}
 use Rattle.std.specs.List.{slice_get}
 use Rattle.std.proofs.lemmas.Bool.{and_parts, and_from}

@@ -189,7 +189,7 @@ given_readable catalog (Some (string s)) = one_readable catalog (string s)
 given_readable catalog (Some (array ds)) = one_readable catalog (array ds)
 given_readable catalog (Some (object ms)) = one_readable catalog (object ms)
 
--- what holds of no start and of the start of version 2 holds in either version
+-- A property of no start and of the start of version 2 is a property of the start of either version.
 pub in_either_version : (P : Option Start → Type 0) (version : Version) (catalog : Objects) (value : Data) → P None → IfOk (optional_start catalog value) P
     → IfOk (versioned_start version catalog value) P
 in_either_version P First catalog value none some = none

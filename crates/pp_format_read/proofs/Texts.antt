@@ -1,4 +1,4 @@
--- What `Name::read` returns, as `name_from`.
+-- The result of `Name::read`, as `name_from`.
 use Rattle.std.proofs.Common.{◌≡◌, ◌≤◌, ◌↔◌, ℕ, List, Option, true, false, Some, None, IsTrue}
 use Rattle.std.proofs.Common.{length, refl, sym, ◌∙◌, ap, cond, arith, rules}
 use Rattle.std.specs.Prelude.{IsSome, IfSome}
@@ -23,7 +23,7 @@ is_name_fact text e =
     let bytes : IsTrue (list_all is_name_byte text) = grind (arith, common_steps) in
     record { some = some; few = few; bytes = bytes }
 
--- the answer, which is the text if the text is a name
+-- The result is the text, if the text is a name.
 pub name_is : (text : List ℕ) (answer : Option (List ℕ)) → IfSome answer (λ name. name ≡ text) → IsSome answer ↔ IsName text → answer ≡ name_from text
 unfolding name_from
 name_is text (Some name) same read =

@@ -1,4 +1,4 @@
--- What serde_json returns, as `value_of`.
+-- The result of serde_json, as `value_of`.
 use Rattle.std.proofs.Common.{◌≡◌, ℕ, List, true, false, Some, None, Ok, Err, ok_or, cond, refl, ap}
 use Rattle.std.specs.Str.{IsUtf8, is_utf8}
 use Rattle.std.proofs.lemmas.Str.{is_utf8-from_IsUtf8, IsUtf8-from_is_utf8}

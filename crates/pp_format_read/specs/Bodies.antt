@@ -17,13 +17,13 @@ use Rattle.pp_format_read.specs.Patterns.{pattern_of}
 abbrev pub present : List ℕ → Data → ℕ
 present key value = cond (is_some (get key value)) 1 0
 
--- how many of the five members it has
+-- the number of the five members that it has
 unfoldable pub forms : Data → ℕ
 forms value =
     present (codes "seq") value + present (codes "alt") value + present (codes "star") value
     + present (codes "skip") value + present (codes "on") value
 
--- what the member `skip` returns: only true is a body
+-- the body of the member `skip`: only true is a body
 abbrev pub skip_in : Option Bool → Result Tree RecordFault
 skip_in (Some true) = Ok Skip
 skip_in (Some false) = Err BodyBad

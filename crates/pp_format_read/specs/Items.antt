@@ -1,4 +1,5 @@
--- Meaning: an operation with its id, as a record of an operation and an element of a start give it.
+-- Meaning: an operation with its id, as it is in a record of an operation and in an element of a
+-- start.
 use Rattle.std.specs.Prelude.{◌≤◌, ℕ, ℤ, pos, negsuc, nat_le, IsTrue, Option, Some, None, ok_or}
 use Rattle.std.specs.Prelude.{Result, Ok, if◌then◌else◌}
 use Rattle.serde_json.specs.Data.{Data}
@@ -31,7 +32,7 @@ item_of catalog value = do
   op ← op_of catalog value
   Ok (record { id = id; op = op })
 
--- What an operation that was read keeps to: its id lies in the range of ids, and it is one on an
+-- The facts about an operation that was read: its id is in the range of ids, and it is one on an
 -- object of the run, with numbers in the range of records.
 abbrev pub IsReadableCall : Objects → ℕ → Op → Type 0
 IsReadableCall catalog id op =

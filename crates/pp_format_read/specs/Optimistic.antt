@@ -12,7 +12,7 @@ use Rattle.pp_format_read.specs.Members.{name_of}
 use Rattle.pp_format_read.specs.Calls.{object_called}
 use Rattle.pp_format_read.specs.Boosted.{boosted_of}
 
--- what is committed of an object is taken over
+-- a refresh: the committed entries of an object are pulled
 unfoldable pub refresh_of : Objects → Data → Result (RunRecord Op) RecordFault
 refresh_of catalog value = do
   tx ← name_of members.Tx value

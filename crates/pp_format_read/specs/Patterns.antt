@@ -1,4 +1,4 @@
--- Meaning: a pattern of calls in a body, where each fault is that the body is bad.
+-- Meaning: a pattern of calls in a body. Each fault means that the body is bad.
 use Rattle.std.specs.Prelude.{ℕ, ◌==◌, ℤ, pos, List, codes, not, Option, Some, None, ok_or}
 use Rattle.std.specs.Prelude.{option_and_then, Result, Ok}
 use Rattle.serde_json.specs.Data.{Data, null}

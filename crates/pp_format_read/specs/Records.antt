@@ -36,8 +36,8 @@ record_of header line = do
   word ← text_of members.Step value
   record_named header.style header.catalog word value
 
--- What a record that was read keeps to: ids and the numbers of an operation lie in their ranges, a
--- body is within its limits, and the object of an operation or of a refresh is one of the run.
+-- The facts about a record that was read: ids and the numbers of an operation are in their ranges,
+-- a body is within its limits, and the object of an operation or of a refresh is one of the run.
 abbrev pub IsReadable : Objects → RunRecord Op → Type 0
 IsReadable catalog (Plain step) = IsReadableStep catalog step
 IsReadable catalog (records.Op tx id op) = IsReadableCall catalog id op

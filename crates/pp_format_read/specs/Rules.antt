@@ -15,7 +15,7 @@ use Rattle.pp_format_read.specs.Members.{name_of}
 use Rattle.pp_format_read.specs.Items.{id_of, item_of, IsReadableCall}
 use Rattle.pp_format_read.specs.Bodies.{body_of_begin}
 
--- a begin, with the body that it gives
+-- a begin, with its body
 unfoldable pub begin_of : Objects → Data → Result (Step Op) RecordFault
 begin_of catalog value = do
   tx ← name_of members.Tx value
@@ -97,7 +97,7 @@ step_of catalog word value =
     (if bytes_eq word (codes "quit") then quit_of value else
     (if bytes_eq word (codes "note") then note_of value else Err UnknownStep)))))))))
 
--- What a step that was read keeps to: its id lies in the range of ids, its operation is one on an
+-- The facts about a step that was read: its id is in the range of ids, its operation is one on an
 -- object of the run, with numbers in the range of records, and its body is within the limits.
 abbrev pub IsReadableStep : Objects → Step Op → Type 0
 IsReadableStep catalog (Begin tx thread body) = IsWithinLimits body

@@ -1,4 +1,4 @@
--- Meaning: the start of a run, which a header of version 2 may give.
+-- Meaning: the start of a run, which a header of version 2 may have.
 use Rattle.std.specs.Prelude.{◌≤◌, List, [], ◌∷◌, ◌++◌, length, nat_lt, Option, Some, None, ok_or}
 use Rattle.std.specs.Prelude.{Result, Ok}
 use Rattle.std.specs.List.{All}
@@ -62,12 +62,12 @@ start_given catalog (Some value) = start_from catalog value >>= λ start. Ok (So
 unfoldable pub optional_start : Objects → Data → Result (Option Start) RecordFault
 optional_start catalog value = start_given catalog (get (member_word members.Start) value)
 
--- What operations that were read keep to: there are at most 256, and each is readable.
+-- The facts about operations that were read: there are at most 256, and each is readable.
 pub record AreReadable (catalog : Objects) (items : List (Item Op)) : Type 0 where
   pub few : length items ≤ MOST_START
   pub each : All (IsReadableItem catalog) items
 
--- What a start that was read keeps to.
+-- The facts about a start that was read.
 abbrev pub IsReadableStart : Objects → Option Start → Type 0
 IsReadableStart catalog None = Unit {0}
 IsReadableStart catalog (Some start) = AreReadable catalog start.ops

@@ -154,8 +154,8 @@ fn answer_in(form: Form, value: &Value) -> Result<Answer, RecordFault>
     }
 }
 
-/// The operation of a call, which its object's kind has, with a result of the form that the call
-/// gives.
+/// The operation of a call, which the kind of its object has, with a result of the form of the
+/// call.
 fn op_with(kind: Kind, call: &Call, answer: &Answer) -> Op
     requires { IsCallOf kind call.now answer.now }
     ensures made { op_made kind call.now answer.now ≡ Some result }

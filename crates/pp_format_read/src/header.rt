@@ -15,7 +15,7 @@ use pp_core::{Catalog, Kind, MOST_OBJECTS, Member, Name, Style};
 use serde_json::Value;
 use std::alloc::Global;
 
-/// What the first line of a run says: how the run was recorded, over which objects, and what is
+/// The first line of a run: how the run was recorded, over which objects, and which operations are
 /// committed before the first step.
 #[derive(Drop)]
 pub struct Header {
@@ -116,7 +116,8 @@ fn versioned_start(
     }
 }
 
-/// Reads the first line of a run. Of several faults it returns the one that is tested first.
+/// Reads the first line of a run. If there are several faults, it returns the one that is tested
+/// first.
 #[tactic(auto, unfolding(crate::specs::Headers::header_of))]
 pub fn read_header(alloc: Global, line: &[u8]) -> Result<Header, RecordFault>
     ensures reads { Gives (λ h. h) result (header_of line.now) }

@@ -44,8 +44,9 @@ fn record_named(
     }
 }
 
-/// Reads a line after the header. Of several faults it returns the one that is tested first: the
-/// members are tested in the order in which the format lists them, and not in that of the line.
+/// Reads a line after the header. If there are several faults, it returns the one that is tested
+/// first: the members are tested in the order in which the format lists them, and not in that of
+/// the line.
 #[tactic(auto, unfolding(crate::specs::Records::record_of))]
 pub fn read_record(
     alloc: Global,

@@ -1,4 +1,4 @@
--- What is written of a body.
+-- The text of a body.
 use Rattle.std.proofs.Common.{◌≡◌, ◌≤◌, ◌+◌, ◌*◌, ℕ, zero, suc, ℤ, IsTrue, List, length}
 use Rattle.std.proofs.Common.{map, take, [], ◌∷◌, Option, Some, None, refl, ap, arith}
 use Rattle.serde_json.specs.Data.{Num, object, items_depth}

@@ -1,4 +1,4 @@
--- What was read as a header can be stated.
+-- A header that was read can be stated.
 use Rattle.std.proofs.Common.{◌≡◌, ◌≤◌, ◌+◌, ◌⊎◌, ℕ, zero, suc, List, [], ◌∷◌, ◌++◌, length, slice_get, Option, Some, None}
 use Rattle.std.proofs.Common.{Ok, ok_or, nat_lt, is_some, refl, sym, ap, ◌∙◌, arith, inl, inr, length-append}
 use Rattle.std.specs.Prelude.{IfOk}

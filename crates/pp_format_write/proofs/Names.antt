@@ -1,4 +1,4 @@
--- The names of a catalog, and where they are.
+-- The names of a catalog, and their positions.
 use Rattle.std.proofs.Common.{◌<◌, ℕ, zero, suc, [], ◌∷◌, length}
 use Rattle.std.proofs.Common.{arith}
 use Rattle.pp_core.specs.Catalogs.{Objects, HasNames}

@@ -1,4 +1,4 @@
--- What is written of an operation.
+-- The text of an operation.
 use Rattle.std.proofs.Common.{◌≡◌, ◌<◌, ◌≤◌, ◌&&◌, ℕ, zero, suc, ℤ, pos, negsuc, IsTrue, List, [], ◌∷◌}
 use Rattle.std.proofs.Common.{length, map, take, slice_get, Option, Some, None, refl}
 use Rattle.std.proofs.Common.{sym, ap, ◌∙◌, arith, int_le}
@@ -130,7 +130,7 @@ near_integer (pos n) h =
 near_integer (negsuc n) h =
     let ends = and_parts (int_le least (negsuc n)) (int_le (negsuc n) most) h in grind (arith, ints)
 
--- a number that is given has this property
+-- this is a property of the number, if there is one
 abbrev pub IfNumber : (Num → Type 0) → Option ℤ → Type 0
 IfNumber P None = Unit {0}
 IfNumber P (Some n) = P (of_integer n)

@@ -48,7 +48,7 @@ number_back : (m : Member) (z : ℤ) → IsTrue (in_range z) → number_of m (nu
 unfolding number_of number_from
 number_back m z h = rw (whole_back m z, h) refl
 
--- what is read of the array of three arguments
+-- The arguments that are read back from the array of three.
 record AreBack (arity : ℕ) (x y z : ℤ) : Type 0 where
   first : argument 0 (arguments_value arity (Some x) (Some y) (Some z)) ≡ Ok (if_used (nat_lt 0 arity) x)
   second : argument 1 (arguments_value arity (Some x) (Some y) (Some z)) ≡ Ok (if_used (nat_lt 1 arity) y)

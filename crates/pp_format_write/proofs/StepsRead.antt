@@ -45,7 +45,7 @@ pub name_read : (m : Member) (value : Data) → IfOk (name_of m value) IsName
 unfolding name_of
 name_read m value = behind_any (text_of m value) _ _ (λ text. found (name_from text) (BadName m) _ (named text))
 
--- what holds of both holds of the one that a test picks
+-- A property of two results is a property of the one that a test picks.
 either : {A : Type 0} (b : Bool) (x y : Result A RecordFault) (P : A → Type 0) → IfOk x P → IfOk y P → IfOk (if b then x else y) P
 either true x y P p q = p
 either false x y P p q = q

@@ -20,7 +20,7 @@ abbrev pub number_or_null : Option ℤ → Data
 number_or_null None = null
 number_or_null (Some n) = number (of_integer n)
 
--- of three arguments the array of those that a call has
+-- the array of the arguments that a call has, out of three
 abbrev pub arguments_value : ℕ → Option ℤ → Option ℤ → Option ℤ → Data
 arguments_value arity first second third =
     array (items_of (map number_or_null (take arity (first ∷ second ∷ third ∷ []))))

@@ -135,7 +135,7 @@ abbrev pub IsStatable : Objects → Step Op → Type 0
 IsStatable catalog step =
     Carries IsName IsId (IsOpOn catalog) (IfGiven (IsStatableBody catalog)) step
 
--- the same of a record, of the step or the operation that it has
+-- the same for a record, about its step or its operation
 abbrev pub IsStatableRecord : Objects → RunRecord Op → Type 0
 IsStatableRecord catalog r =
     RecordCarries IsName IsId (IsOpOn catalog) (IfGiven (IsStatableBody catalog)) r

@@ -30,7 +30,7 @@ fn wanted_values(alloc: Global, numbers: &[Option<i64>]) -> Result<Vec<Value>, O
     Ok(values)
 }
 
-/// Of three arguments the array of those that a call has.
+/// The array of the arguments that a call has, out of three.
 pub(crate) fn arguments_value(
     alloc: Global,
     arity: usize,

@@ -1,5 +1,4 @@
-//! What is read back from the lines that are written. Each law is a fact of the definitions, and
-//! does nothing.
+//! The lines that are written read back. Each law is a fact of the definitions, and does nothing.
 ghost use Rattle.std.specs.Prelude.{◌≡◌, ◌≤◌, ◌<◌, ◌++◌, ℕ, List, length, map};
 ghost use Rattle.std.specs.Prelude.{Option, None, Ok, false};
 ghost use Rattle.pp_core.specs.Catalogs.{Objects};
@@ -46,8 +45,8 @@ pub fn read_header_law()
         → CanStart header.catalog header.start }
 {}
 
-/// Of a record that was read, of whichever style, the names are names, and its step, or its
-/// operation with its id, can be stated.
+/// In a record that was read, of any style, the names are names, and its step, or its operation
+/// with its id, can be stated.
 pub fn read_record_law()
     ensures { (header : Header) (line : List ℕ) (r : RunRecord Op)
         → record_of header line ≡ Ok r → IsStatableRecord header.catalog r }

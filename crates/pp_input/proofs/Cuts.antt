@@ -47,7 +47,7 @@ cut_more whole front left k all lt at none so_far = rw append_assoc (ap (λ ls. 
 pub nothing_more : (whole : List (List ℕ)) (front left : List ℕ) (all : List (List ℕ)) → ((j : ℕ) → 0 ≤ j → j < length left → (slice_index left j == 10) ≡ true → ⊥) → whole ++ map without_return (ended_behind front left) ≡ all → whole ≡ all
 nothing_more whole front left all none so_far = sym (append-nil whole) ∙ ap (λ ls. whole ++ map without_return ls) (sym (none_ended front left none)) ∙ so_far
 
--- what was in front is still there
+-- The first part of a list stays when an element is added at the end.
 pub kept_push : {X : Type 0} (front all : List X) (x : X) → take (length front) all ≡ front → take (length front) (all ++ x ∷ []) ≡ front
 kept_push front all x h =
     let le : length front ≤ length all = omega (arith, length-take (length front) all, ap length h) in

@@ -1,4 +1,4 @@
--- What a read takes from the front.
+-- The bytes that a read takes from the front.
 use Rattle.std.proofs.Common.{◌≡◌, ◌<◌, ◌+◌, ℕ, List, ◌++◌, take, drop, Option, Some, None, sym}
 use Rattle.std.proofs.Common.{arith}
 use Rattle.std.proofs.lemmas.List.{drop-drop, take-append-drop}

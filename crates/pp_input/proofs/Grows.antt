@@ -1,4 +1,4 @@
--- What the fields of `Lines` keep, as bytes are taken.
+-- The invariant of the fields of `Lines`, as bytes are taken.
 use Rattle.std.proofs.Common.{◌≡◌, ◌≤◌, ℕ, ◌+◌, List, [], ◌∷◌, ◌++◌, ◌==◌, length, map, Bool}
 use Rattle.std.proofs.Common.{true, false, is_some, Option, refl, ap, ◌∙◌, arith}
 use Rattle.std.proofs.lemmas.List.{length-append, length-map}
@@ -33,7 +33,7 @@ column_counted at front (b ∷ bs) le =
           ] refl)
     ] refl
 
--- what is held once a piece was cut
+-- The counts after a piece was cut into lines.
 pub counted_fed : (at : Reach) (rest piece bytes : List ℕ) (old new : List (List ℕ)) (tail : List ℕ) (last : Option (List ℕ)) (handed : ℕ) (closed : Bool)
     → IsCounted old last rest handed at closed → closed ≡ false → bytes ≡ within_from at piece → IsReach (reach_from at piece)
     → new ≡ old ++ map without_return (ended_behind rest bytes) → tail ≡ rest_behind rest bytes

@@ -23,7 +23,7 @@ ended_append front (x ∷ xs) b =
       | false ↦ ended_append (front ++ x ∷ []) xs b
     ]
 
--- What follows the last byte 10 of two pieces is that of the second after what the first leaves.
+-- The bytes after the last byte 10 of two pieces are those of the second piece, after those of the first.
 pub rest_append : (front a b : List ℕ) → rest_behind front (a ++ b) ≡ rest_behind (rest_behind front a) b
 rest_append front [] b = refl
 rest_append front (x ∷ xs) b =
@@ -53,7 +53,8 @@ pub overrun_is : (L : Limits) (front bytes : List ℕ) → overrun_from (reach_o
 overrun_is L front [] = refl
 overrun_is L front (b ∷ bs) = ap (λ at. option_or (passed (reach_of L front) b) (overrun_from at bs)) (past_push L front b) ∙ ap (option_or (passed (reach_of L front) b)) (overrun_is L (front ++ b ∷ []) bs)
 
--- From where the first bytes reach, more bytes reach to where both reach, up to the byte that passes a limit.
+-- The state of the input after two pieces is the state after the second piece, from the state after the first, up to the byte that passes a
+-- limit.
 pub reach_is : (L : Limits) (front bytes : List ℕ) → reach_from (reach_of L front) bytes ≡ reach_of L (front ++ within_from (reach_of L front) bytes)
 reach_is L front [] = ap (reach_of L) (sym (append-nil front))
 reach_is L front (b ∷ bs) =
@@ -123,11 +124,11 @@ line_is at (x ∷ xs) fault h =
       | Some f ↦ λ first k. first k
     ] (line_in _ _ _ (at.lines + 1) fault) h
 
--- what all bytes of an input are, in terms of the program's steps
+-- The first limit that all bytes of an input pass, by the program's steps.
 pub start_overrun : (L : Limits) (bytes : List ℕ) → overrun_from (start L) bytes ≡ overrun L bytes
 start_overrun L bytes = overrun_is L [] bytes
 
--- From the start an input reaches to where its bytes within the limits reach.
+-- From the start, the state of the input is that of its bytes within the limits.
 pub start_reach : (L : Limits) (bytes : List ℕ) → reach_from (start L) bytes ≡ reach_of L (within L bytes)
 start_reach L bytes = reach_is L [] bytes
 
@@ -135,7 +136,7 @@ start_reach L bytes = reach_is L [] bytes
 pub within_all : (L : Limits) (bytes : List ℕ) → overrun L bytes ≡ None → within L bytes ≡ bytes
 within_all L bytes none = ap (within_from (start L)) (sym (append-nil bytes)) ∙ within_on (start L) bytes [] (start_overrun L bytes ∙ none) ∙ append-nil bytes
 
--- If an input passes no limit, from the start it reaches to where its bytes reach.
+-- If an input passes no limit, its state from the start is that of all its bytes.
 pub start_reach_all : (L : Limits) (bytes : List ℕ) → overrun L bytes ≡ None → reach_from (start L) bytes ≡ reach_of L bytes
 start_reach_all L bytes none = start_reach L bytes ∙ ap (reach_of L) (within_all L bytes none)
 

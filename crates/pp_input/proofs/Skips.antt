@@ -67,6 +67,6 @@ pub line_more : (from at to : Reach) (bytes left : List ℕ) (n k : ℕ) → IsS
 line_more from at to bytes left n k first is lt end inner b l c ts tb tl tc =
     rw add-one (skipped_more from at to bytes n (suc k) first (subst (λ ls. IsSkipped at ls (suc k) to) is (line_skipped at to left k lt end inner b l c ts tb tl tc)))
 
--- What is taken byte by byte after that.
+-- The bytes within the limits are the skipped ones and those that are taken one by one after them.
 pub within_more : (from at : Reach) (bytes : List ℕ) (n k : ℕ) → IsSkipped from bytes n at → take k (drop n bytes) ≡ within_from at (drop n bytes) → take (n + k) bytes ≡ within_from from bytes
 within_more from at bytes n k first next = take-add n k bytes ∙ ap (λ ls. take n bytes ++ ls) next ∙ sym first.within

@@ -8,8 +8,8 @@ use Rattle.pp_input.specs.declared.reach.Reach.{Reach}
 use Rattle.pp_input.specs.Lines.{NumberedLine, ended_behind, rest_behind, unended, without_return}
 use Rattle.pp_input.specs.Reaches.{overrun_from, within_from, reach_from, start}
 
--- the whole lines that were not handed out, what follows the last line end, how many lines were
--- handed out, how far the input has come, the fault that every later feed answers, and whether the
+-- the whole lines that were not handed out, the bytes after the last line end, how many lines were
+-- handed out, how far the input has come, the fault that every later feed returns, and whether the
 -- input is at its end
 pub record Held : Type 0 where
   pub whole : List (List ℕ)
@@ -67,11 +67,11 @@ first_of handed (line ∷ lines) = Some (handed + 1, line)
 abbrev pub next_line : Held → Option NumberedLine
 next_line held = first_of held.handed held.whole
 
--- what is held once the first of the whole lines was handed out
+-- the lines held after the first of the whole lines was handed out
 abbrev pub after_first : Held → List (List ℕ) → Held
 after_first held [] = held
 after_first held (line ∷ lines) = record held { whole = lines; handed = held.handed + 1 }
 
--- what is held once the next whole line was handed out
+-- the lines held after the next whole line was handed out
 abbrev pub after_next : Held → Held
 after_next held = after_first held held.whole

@@ -9,7 +9,7 @@ ended_behind front [] = []
 ended_behind front (byte ∷ bytes) =
     if byte == 10 then front ∷ ended_behind [] bytes else ended_behind (front ++ byte ∷ []) bytes
 
--- what follows the last byte 10, if front is before the bytes
+-- the bytes after the last byte 10, if front is before the bytes
 abbrev pub rest_behind : List ℕ → List ℕ → List ℕ
 rest_behind front [] = front
 rest_behind front (byte ∷ bytes) =
@@ -19,7 +19,7 @@ rest_behind front (byte ∷ bytes) =
 abbrev pub ended : List ℕ → List (List ℕ)
 ended bytes = ended_behind [] bytes
 
--- what follows the last byte 10
+-- the bytes after the last byte 10
 abbrev pub rest : List ℕ → List ℕ
 rest bytes = rest_behind [] bytes
 
@@ -37,7 +37,7 @@ without_return line =
 abbrev pub NumberedLine : Type 0
 NumberedLine = ℕ × List ℕ
 
--- lines with their numbers, the first of which is given
+-- lines with their numbers, from a first number on
 abbrev pub numbered_from : ℕ → List (List ℕ) → List NumberedLine
 numbered_from number [] = []
 numbered_from number (line ∷ lines) = (number, line) ∷ numbered_from (number + 1) lines

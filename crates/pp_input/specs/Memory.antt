@@ -3,7 +3,7 @@ use Rattle.std.specs.Prelude.{ℕ, List, [], ◌++◌, length, drop, min, max, O
 use Rattle.std.specs.Prelude.{slice_get, Contains}
 use Rattle.pp_input.specs.Faults.{counted}
 
--- the bytes that are left, how many bytes each call gives at most, the numbers of the calls that
+-- the bytes that are left, how many bytes each call returns at most, the numbers of the calls that
 -- fail, and how many calls were made and failed
 pub record SourceInMemory : Type 0 where
   pub left : List ℕ
@@ -26,7 +26,7 @@ abbrev pub most_of : Option ℕ → ℕ → ℕ
 most_of None room = room
 most_of (Some most) room = max most 1
 
--- how many bytes the next call gives
+-- how many bytes the next call returns
 abbrev pub given_by : SourceInMemory → ℕ → ℕ
 given_by source room =
     min (min room (most_of (slice_get source.pieces source.calls) room)) (length source.left)
@@ -41,8 +41,8 @@ after_failed_read source =
     record source { calls = counted source.calls; faults = counted source.faults }
 
 -- the bytes that were taken and those that were sent on, how many a call takes at most, the numbers
--- of the calls that fail, how many calls were made, asked to send on and failed, and how many were
--- refused memory
+-- of the calls that fail, how many calls were made, how many sent on, how many failed, and how many
+-- ran out of memory
 pub record SinkInMemory : Type 0 where
   pub held : List ℕ
   pub sent : List ℕ
@@ -95,8 +95,8 @@ abbrev pub after_refused_write : SinkInMemory → SinkInMemory
 after_refused_write sink =
     record sink { calls = counted sink.calls; refusals = counted sink.refusals }
 
--- the bytes that a sink took which never fails, those that it sent on, how often it was asked to,
--- and how often it was refused memory
+-- the bytes that a sink took which never fails, those that it sent on, how often it sent on, and
+-- how often it ran out of memory
 pub record SteadyBytes : Type 0 where
   pub held : List ℕ
   pub sent : List ℕ

@@ -54,7 +54,7 @@ scanned_lines limits bytes = lines_before (overrun limits bytes) (numbered_lines
 abbrev pub early_lines : Limits → List ℕ → List NumberedLine
 early_lines limits bytes = lines_before (overrun limits bytes) (ended_lines bytes)
 
--- what a feed returns, if this is the limit that was passed
+-- the result of a feed, if this is the limit that was passed
 abbrev pub answer_of : Option LineFault → Result Unit LineFault
 answer_of None = Ok tt
 answer_of (Some fault) = Err fault

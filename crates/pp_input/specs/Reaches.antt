@@ -35,7 +35,7 @@ within_from at [] = []
 within_from at (byte ∷ bytes) =
     if is_some (passed at byte) then [] else byte ∷ within_from (past at byte) bytes
 
--- where they reach to
+-- the state of the input after them
 abbrev pub reach_from : Reach → List ℕ → Reach
 reach_from at [] = at
 reach_from at (byte ∷ bytes) =

@@ -1,4 +1,4 @@
-//! What lines that are joined are as an input. It is a fact of the definitions, and does nothing.
+//! Joined lines as an input. It is a fact of the definitions, and does nothing.
 ghost use Rattle.std.specs.Prelude.{◌≡◌, ℕ, List, None};
 ghost use Rattle.pp_input.specs.Joined.{joined_lines, AreLines, AreAllowed};
 ghost use Rattle.pp_input.specs.Lines.{numbered_lines, numbered_from};

@@ -1,4 +1,4 @@
-//! Whole lines out of pieces of bytes, and where bytes come from and go to.
+//! Whole lines out of pieces of bytes, and the sources and sinks of bytes.
 #![tactic(auto)]
 
 mod cut;

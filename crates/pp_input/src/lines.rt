@@ -1,4 +1,4 @@
-//! Whole lines out of pieces of bytes.
+//! Whole lines out of pieces of bytes, and the sources and sinks of bytes.
 ghost use Rattle.std.specs.Prelude.{◌≡◌, ◌≤◌, ◌+◌, ◌++◌, ◌∷◌, [], ℕ, List, IfNone, None, Some, Err};
 ghost use Rattle.std.specs.Prelude.{OnOk, IfErr, IsErrOf, option_map, IfSome, false};
 ghost use Rattle.pp_input.specs.Limits.{CanCount, HasNext};

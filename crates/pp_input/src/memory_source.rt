@@ -38,7 +38,7 @@ impl Model for MemorySource {
 }
 
 impl MemorySource {
-    /// A source that has given nothing.
+    /// A source that has returned nothing yet.
     pub fn new(bytes: Vec<u8>, pieces: Vec<usize>, failing: Vec<u64>) -> MemorySource
         ensures { result ≡ fresh_source bytes.items pieces.items failing.items }
     {

@@ -67,7 +67,8 @@ fn has_room(at: Reach, len: usize) -> bool
         && at.column <= at.limits.line_bytes - len
 }
 
-/// How many bytes the lines are that end in a piece and pass no limit, and where they reach to.
+/// The number of bytes of the lines that end in a piece and pass no limit, and the state of the
+/// input after them.
 fn skipped(from: Reach, piece: &[u8]) -> (usize, Reach)
     requires { IsReach from }
     ensures count { result.0 ≤ length piece.now }
@@ -93,8 +94,8 @@ fn skipped(from: Reach, piece: &[u8]) -> (usize, Reach)
     (done, at)
 }
 
-/// How many bytes of a piece pass no limit, where they reach to, and what the next one passes: one
-/// byte after the other.
+/// How many bytes of a piece pass no limit, the state of the input after them, and the limit that
+/// the next one passes: byte by byte.
 fn passed_over(from: Reach, piece: &[u8]) -> (usize, Reach, Option<LineFault>)
     requires { IsReach from }
     ensures count { result.0 ≤ length piece.now }
@@ -114,7 +115,8 @@ fn passed_over(from: Reach, piece: &[u8]) -> (usize, Reach, Option<LineFault>)
     (piece.len(), at, None)
 }
 
-/// How many bytes of a piece pass no limit, where they reach to, and what the next one passes.
+/// How many bytes of a piece pass no limit, the state of the input after them, and the limit that
+/// the next one passes.
 pub(crate) fn allowed(from: Reach, piece: &[u8]) -> (usize, Reach, Option<LineFault>)
     requires { IsReach from }
     ensures count { result.0 ≤ length piece.now }

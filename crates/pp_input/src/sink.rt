@@ -1,4 +1,4 @@
-//! Where bytes go to.
+//! A sink of bytes.
 ghost use Rattle.std.specs.Prelude.{◌≡◌, ◌≤◌, ℕ, List, Option, length, IfOk, OnOk, OnErr, IsErrOf};
 ghost use Rattle.std.specs.Io.KnownBytes.{WriteAppends, Keeps};
 ghost use Rattle.pp_input.specs.Faults.{CountsNothing, HasRisen, TakesSome, counted};
@@ -14,7 +14,7 @@ pub enum SinkFault {
     OutOfMemory,
 }
 
-/// Where bytes go to.
+/// A sink of bytes.
 pub trait Sink {
     /// The bytes taken so far, if it reports them.
     ghost held: { Self → Option (List ℕ) };
@@ -22,7 +22,7 @@ pub trait Sink {
     /// The bytes that were sent on, if it reports them.
     ghost sent: { Self → Option (List ℕ) };
 
-    /// How often it was asked to send on what it took, up to the end of 64 bits.
+    /// How often it was called to send on what it took, up to the end of 64 bits.
     ghost flushes: { Self → ℕ };
 
     /// How often it has failed, up to the end of 64 bits.

@@ -1,4 +1,4 @@
-//! Where bytes come from.
+//! A source of bytes.
 ghost use Rattle.std.specs.Prelude.{◌≡◌, ◌≤◌, ℕ, List, Option, length, IfOk, OnErr, OnOk};
 ghost use Rattle.std.specs.Io.KnownBytes.{ReadConsumes};
 ghost use Rattle.pp_input.specs.Faults.{HasRisen};
@@ -7,7 +7,7 @@ ghost use Rattle.pp_input.specs.Faults.{HasRisen};
 #[derive(Clone, Copy, Debug, PartialEq, Eq)]
 pub struct Failed;
 
-/// Where bytes come from.
+/// A source of bytes.
 pub trait Source {
     /// The bytes still to come, if it reports them.
     ghost left: { Self → Option (List ℕ) };

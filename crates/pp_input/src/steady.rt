@@ -13,8 +13,8 @@ use crate::source::{Failed, Source};
 use std::alloc::Global;
 use std::marker::Model;
 
-/// Bytes in memory. A read fills what it is given, and never fails. Contracts see it as the bytes
-/// that are left.
+/// Bytes in memory. A read fills its buffer, and never fails. Contracts see it as the bytes that
+/// are left.
 #[derive(Drop)]
 pub struct SteadySource {
     bytes: Vec<u8>,
@@ -32,7 +32,7 @@ impl Model for SteadySource {
 }
 
 impl SteadySource {
-    /// A source that has given nothing.
+    /// A source that has returned nothing yet.
     pub fn new(bytes: Vec<u8>) -> SteadySource
         ensures { result ≡ bytes.items }
     {
@@ -57,8 +57,9 @@ impl Source for SteadySource {
     }
 }
 
-/// Keeps what it takes, and never fails. Contracts see the bytes that were taken, those of them
-/// that were sent on, how often it was asked to send on, and how often it was out of memory.
+/// Keeps the bytes that it takes, and never fails. Contracts see the bytes that were taken, those
+/// of them that were sent on, how often it was called to send on, and how often it was out of
+/// memory.
 #[derive(Drop)]
 pub struct SteadySink {
     held: Vec<u8>,

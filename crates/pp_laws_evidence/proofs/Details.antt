@@ -66,7 +66,7 @@ none_other {Op} t (e ∷ Q) = ap (λ (b : Bool). cond (true && not b) (as_shared
 one_more : (n : ℕ) → 1 + n ≡ suc n
 one_more n = omega arith
 
--- what comes before an entry whose id is new
+-- All entries are before an entry at the end whose id is new.
 before_new : {Op : Type 0} (K : List (LocalEntry Op)) (e : LocalEntry Op) → ((a : LocalEntry Op) → In a K → (a.id == e.id) ≡ false) → entries_before e.id (K ++ e ∷ []) ≡ K
 before_new {Op} [] e h = ap (λ (b : Bool). take (cond (not b) (1 + 0) 0) (e ∷ [])) (eq-eqb e.id e.id refl)
 before_new {Op} (a ∷ K) e h =
@@ -74,7 +74,7 @@ before_new {Op} (a ∷ K) e h =
     ∙ ap (λ (k : ℕ). take k (a ∷ (K ++ e ∷ []))) (one_more (position_or_len (λ (z : LocalEntry Op). z.id == e.id) (K ++ e ∷ [])))
     ∙ ap (λ (w : List (LocalEntry Op)). a ∷ w) (before_new K e (λ d i. h d (inr i)))
 
--- five places, where the third is not asked
+-- The evidence by five criteria, if the third is not the false one.
 but_third : {Op : Type 0} (n : ℕ) (p q x y r s : Detail Op) → (n ≡ 2 → ⊥) → at_number (p ∷ q ∷ x ∷ r ∷ s ∷ []) (suc n) ≡ at_number (p ∷ q ∷ y ∷ r ∷ s ∷ []) (suc n)
 but_third zero p q x y r s h = refl
 but_third (suc zero) p q x y r s h = refl
@@ -191,7 +191,7 @@ module _ {Shape State Op Undo : Type 0} (o : Object Shape State Op Undo) (place 
         abbrev e : LocalEntry Op
         e = as_applied t id op
 
-        -- what comes before the operation and is not pushed
+        -- The unpushed entries before the operation are the unpushed own entries of the log.
         before_are : filter (λ (a : LocalEntry Op). is_mark a.mark Unpushed) (entries_before id (K ++ e ∷ [])) ≡ unpushed (own x.local)
         before_are =
             ap (λ (w : List (LocalEntry Op)). unpushed w) (before_new K e (λ a i. not_eq a.id id (steps.fresh O place part t c b.sound x lookup m id op M pm at_M r q a i)))

@@ -1,4 +1,4 @@
--- What an object returns after a log is what it returns after the view of the summary.
+-- The results of an object after a log are those after the view of the summary.
 use Rattle.std.specs.Prelude.{◌≡◌, ℕ, List, [], ◌∷◌, ◌++◌, cond, Bool, Some}
 use Rattle.std.proofs.Common.{sym, ap, subst, ◌∙◌}
 use Rattle.std.proofs.lemmas.Bool.{eq-eqb}
@@ -30,7 +30,7 @@ module _ {Shape State Op Undo : Type 0} (o : Object Shape State Op Undo) (place 
   ]
 
   module _ (shape : Shape) (f : Front) (c : Config Op) (b : Summable (rules_of o shape) place f c) (t : Name) (x : Tx Op) (lookup : tx t c.opened ≡ Some x) where
-    -- An operation gives the same after the log and after the view, if entries of its object follow.
+    -- An operation has the same result after the log and after the view, if entries of its object follow.
     pub gives_view : (k : List Op) (a : Op) → AllAt place (place a) k →
         o.gives (state_after o shape (local_ops x.local ++ k)) a ≡ o.gives (state_after o shape (summary_view place (place a) c.done (open_summary place f x) ++ k)) a
     gives_view k a at =

@@ -1,4 +1,4 @@
--- Steps, what a summary asks of them, and the evidence that it has.
+-- Steps, the conditions of a summary on them, and its evidence.
 use Rattle.std.specs.Prelude.{◌≡◌, ℕ, zero, suc, List, [], ◌∷◌, ◌++◌, Some, take, length, slice_get}
 use Rattle.std.proofs.Common.{refl, sym, ap, subst}
 use Rattle.std.proofs.lemmas.Option.{same_Some}

@@ -40,7 +40,7 @@ uncommitted_others t G = filter (λ u. not u.committed && not (u.owner =ⁿ t)) 
 abbrev pub cmt_detail : {Op : Type 0} → OpenSummary Op → List (Detail Op)
 cmt_detail x = Nothing ∷ Nothing ∷ first_entry (unpushed x.own) ∷ Nothing ∷ []
 
--- That the transaction is not open has no evidence.
+-- If the transaction is not open, there is no evidence.
 abbrev pub open_details : {Op : Type 0} → Option (OpenSummary Op) →
     (OpenSummary Op → List (List (Detail Op))) → List (List (Detail Op))
 open_details None f = (Nothing ∷ []) ∷ []
@@ -185,7 +185,7 @@ module _ {Shape State Op Undo : Type 0} (o : Object Shape State Op Undo) (shape 
 
   -- The summary has the evidence of the first step that violates a criterion.
   pub record HasEvidence (style : Style) : Type 0 where
-    -- of a record
+    -- the evidence of a record
     pub of_record :
         (f : Front) (c : Config Op) (r : RunRecord Op) (k : ℕ) (s : Step Op) (n : ℕ) →
         IsOfStyle style r → Summable (rules_of o shape) place f c →
@@ -193,7 +193,7 @@ module _ {Shape State Op Undo : Type 0} (o : Object Shape State Op Undo) (shape 
         IsDetailAt (record_details style (summary_of place (record { front = f; config = c })) r) k
         n
         (evidence o shape (after_from c (take k (expand place style f c r))) s (suc n))
-    -- of a run
+    -- the evidence of a run
     pub of_run :
         (ks : List Kind) (p : Standing Front Op) (rs : Records (RunRecord Op)) (k : ℕ)
         (s : Step Op) (n : ℕ) → Each (IsOfStyle style) (bare rs) →

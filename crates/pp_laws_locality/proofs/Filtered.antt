@@ -29,11 +29,11 @@ filter_unseen {A} p f l h = filter_map p f l ∙ ap (λ (w : List A). map f w) (
 cut : {A : Type 0} (p : A → Bool) (n : ℕ) (l : List A) → filter p l ≡ filter p (take n l) ++ filter p (drop n l)
 cut {A} p n l = ap (λ (w : List A). filter p w) (sym (take-append-drop n l)) ∙ filter-append p (take n l) (drop n l)
 
--- What passes of the first elements comes first.
+-- The elements among the first n that pass a test are the first ones that pass.
 pub take_passed : {A : Type 0} (p : A → Bool) (n : ℕ) (l : List A) → take (length (filter p (take n l))) (filter p l) ≡ filter p (take n l)
 take_passed {A} p n l = ap (λ (w : List A). take (length (filter p (take n l))) w) (cut p n l) ∙ take-append_seam (filter p (take n l)) (filter p (drop n l))
 
--- What passes of the others comes after it.
+-- The elements after the first n that pass a test are the later ones that pass.
 pub drop_passed : {A : Type 0} (p : A → Bool) (n : ℕ) (l : List A) → drop (length (filter p (take n l))) (filter p l) ≡ filter p (drop n l)
 drop_passed {A} p n l = ap (λ (w : List A). drop (length (filter p (take n l))) w) (cut p n l) ∙ drop-append_seam (filter p (take n l)) (filter p (drop n l))
 

@@ -28,7 +28,7 @@ use Rattle.pp_laws_locality.proofs.Parts.{found_at, held_at, named_at, open_at, 
 use Rattle.pp_laws_locality.proofs.PartLogs.{from_own, from_shared, missing_same, mode_at, pulled_same, to_own, to_shared, unpushed_at, view_same}
 use Rattle.pp_laws_locality.proofs.PartSteps.{IsFit}
 
--- The first that is not met is asked of the step s, and n + 1 is the number of the criterion.
+-- The first condition that is not met is on the step s, and n + 1 is the number of the criterion.
 abbrev pub AskedFails : {Op : Type 0} → List (Asked Op) → Step Op → ℕ → Type 0
 AskedFails [] s n = ⊥
 AskedFails (a ∷ qs) s n = (IsStep a.step s × FirstFalse a.asks (suc n)) ⊎ (FirstFalse a.asks 0 × AskedFails qs s n)
@@ -38,11 +38,11 @@ abbrev pub NamedFails : {Op : Type 0} → List (Asked Op) → Step Op → ℕ �
 NamedFails [] s n = ⊥
 NamedFails (a ∷ qs) s n = ((a.step ≡ Some s) × FirstFalse a.asks (suc n)) ⊎ (FirstFalse a.asks 0 × NamedFails qs s n)
 
--- what is not asked is the same
+-- Two trivial conditions are the same.
 free : Unit {0} ↔ Unit {0}
 free = ((λ h. h), (λ h. h))
 
--- what cannot fail does not
+-- A condition that is always met does not fail.
 safe_meets : {Op : Type 0} (k : ℕ) (s : Step Op) (n : ℕ) → AskedFails (safe k) s n → ⊥
 safe_meets zero s n f = f
 safe_meets (suc k) s n (inl f) = let e : suc n ≡ 0 = f.1 in cc

@@ -1,4 +1,4 @@
--- What a record asks of a summary, it asks of the part on its object.
+-- The conditions of a record on a summary are its conditions on the part on its object.
 use Rattle.std.specs.Prelude.{◌≡◌, ◌==◌, Bool, true, false, cond, not, ◌&&◌, ◌||◌, ℕ, zero, List, [], ◌∷◌, ◌++◌, drop, filter, length, map, take, slice_get, Option, None, Some}
 use Rattle.std.specs.List.{list_any}
 use Rattle.std.proofs.Common.{refl, sym, ap, subst, ◌∙◌}
@@ -36,7 +36,7 @@ mode_at place o Hardware ks x p = by (is_memory (slice_get ks p))
     by false = refl
 mode_at place o Dependent ks x p = refl
 
--- what is touched, on the object
+-- The objects that are touched, in the part on the object.
 pub touched_at : {Op : Type 0} (place : Op → ℕ) (o : ℕ) (h : Held) (x : OpenSummary Op) →
     touched_since place o (record { own = length (own_at place o (take h.own x.own)); seen = seen_only o h.seen }) (open_at place o x) ≡ touched_since place o h x
 touched_at {Op} place o h x =
@@ -56,21 +56,21 @@ module _ {Op : Type 0} (place : Op → ℕ) (o : ℕ) (js : List ℕ) (B : Summa
       ap (λ (n : ℕ). take n (serial_at place o C.done)) (seen_here o x.seen)
       ∙ ap (λ (w : List (Item Op)). take (x.seen o) w) (serial_same place o B.done)
 
-  -- what is missed on the object
+  -- The entries missed on the object are the same in the part.
   pub missing_same : summary_missing place o C (open_at place o x) ≡ summary_missing place o B x
   missing_same =
       ap (λ (w : List (Item Op)). filter (λ (g : SharedEntry Op). (g.committed && (place g.op == o)) && not (has_id g.id (map (λ (p : Item Op). p.id) w))) C.shared) snapshot_at
       ∙ filter_within (λ (g : SharedEntry Op). (g.committed && (place g.op == o)) && not (has_id g.id (seen_ids place o B.done x))) (λ (g : SharedEntry Op). place g.op == o) B.shared
       (λ g i h. (and_parts g.committed (place g.op == o) (and_parts (g.committed && (place g.op == o)) (not (has_id g.id (seen_ids place o B.done x))) h).0).1)
 
-  -- what an operation on the object pulls
+  -- An operation on the object pulls the same entries in the part.
   pub pulled_same : (w : Option Held) → summary_pulled place (held_at place o x.own w) o C (open_at place o x) ≡ summary_pulled place w o B x
   pulled_same None = missing_same
   pulled_same (Some h) =
       ap (λ (b : Bool). cond b [] (summary_missing place o C (open_at place o x))) (touched_at place o h x)
       ∙ ap (λ (w : List (SharedEntry Op)). cond (touched_since place o h x) [] w) missing_same
 
-  -- what a transaction has of the object
+  -- A transaction has the same operations of the object in the part.
   pub view_same : summary_view place o C.done (open_at place o x) ≡ summary_view place o B.done x
   view_same =
       ap (λ (w : List (Item Op)). ops w ++ ops_at place o (local_ops (own_at place o x.own))) snapshot_at

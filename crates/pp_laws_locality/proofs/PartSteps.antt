@@ -30,7 +30,7 @@ use Rattle.pp_laws_locality.proofs.Parts.{HeldWithin, changed_at, committed_at, 
 use Rattle.pp_laws_locality.proofs.PartLogs.{from_own, mode_at, to_own, unpushed_at}
 use Rattle.pp_laws_locality.proofs.PartTransactions.{after_at, after_off, all_at, all_off, back_at, ended_at, new_at, section_at}
 
--- what is kept of a summary
+-- The invariant of a summary.
 pub record IsFit {Op State : Type 0} (O : Object Op State) (place : Op → ℕ) (B : Summary Op) : Type 0 where
   -- a section began within the own entries
   pub within : (x : OpenSummary Op) → In x B.opened → HeldWithin x
@@ -75,7 +75,7 @@ module _ {Op : Type 0} (place : Op → ℕ) (o : ℕ) where
       by None = refl
       by (Some h) = drop_passed (λ (e : LocalEntry Op). place e.op == o) h.own x.own
 
-  -- what is posted
+  -- The posted entries of the part are the part of the posted entries.
   posted_at : (t : Name) (l : List (LocalEntry Op)) → posted t (unpushed (own_at place o l)) ≡ shared_at place o (posted t (unpushed l))
   posted_at t l = ap (λ (w : List (LocalEntry Op)). posted t w) (unpushed_at place o l)
       ∙ sym (filter_map (λ (g : SharedEntry Op). place g.op == o) (λ (e : LocalEntry Op). as_shared t false (item e)) (unpushed l))
@@ -129,7 +129,7 @@ module _ {Op : Type 0} (place : Op → ℕ) (o : ℕ) where
         by g i true e = ap not (same_bool (has_id g.id (pushed_ids (own_at place o l))) (has_id g.id (pushed_ids l)) (fewer g.id) (all_there g i (eqb-true (place g.op) o e)))
         by g i false e = refl
 
--- what an operation adds to the shared log
+-- The entries that an operation adds to the shared log.
 adds_at : {Op : Type 0} (place : Op → ℕ) (style : Style) (ks : List Kind) (t : Name) (id : ℕ) (op : Op) (w : Option (OpenSummary Op)) →
     shared_by place style ks t id op (found_at place (place op) w) ≡ shared_at place (place op) (shared_by place style ks t id op w)
 adds_at place style ks t id op None = refl

@@ -1,4 +1,4 @@
--- What a record does to a transaction, it does to its part on the object.
+-- The effect of a record on a transaction's part on the object is the part of its effect.
 use Rattle.std.specs.Prelude.{◌≡◌, ◌≢◌, ◌==◌, Bool, true, false, cond, ℕ, zero, List, [], ◌∷◌, ◌++◌, length, map, take, Option, None, Some}
 use Rattle.std.proofs.Common.{refl, sym, ap, ◌∙◌}
 use Rattle.std.proofs.lemmas.Bool.{eq-eqb}

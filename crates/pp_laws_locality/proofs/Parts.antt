@@ -32,7 +32,7 @@ items_at place o l = filter (λ p. place p.op == o) l
 abbrev pub seen_only : ℕ → (ℕ → ℕ) → ℕ → ℕ
 seen_only o seen p = cond (p == o) (seen p) zero
 
--- what a section returns to on the object
+-- The part on the object of the log to which a section returns.
 abbrev pub held_at : {Op : Type 0} → (Op → ℕ) → ℕ → List (LocalEntry Op) → Option Held → Option Held
 held_at place o l None = None
 held_at place o l (Some h) = Some (record { own = length (own_at place o (take h.own l)); seen = seen_only o h.seen })

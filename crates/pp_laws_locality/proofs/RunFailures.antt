@@ -56,7 +56,7 @@ module _ {Op State : Type 0} (O : Object Op State) (line : ℕ) (s : Step Op) (n
   own_line l (x ∷ ss) c (inl f) = ap (λ (w : Lined (Step Op)). w.line) f.0
   own_line l (x ∷ ss) c (inr f) = own_line l ss (then c x) f.1
 
-  -- what is asked of steps that fail
+  -- If steps that match conditions fail, the condition of the failing step is not met.
   to_asked : (l : ℕ) (ss : List (Step Op)) (qs : List (Asked Op)) (c : Config Op) → Matches O c ss qs → FailsFrom O c (on_line l ss) line s n → AskedFails qs s n
   to_asked l [] qs c m f = absurd f
   to_asked l (x ∷ ss) [] c m f = absurd m
@@ -90,7 +90,7 @@ module _ {Op State : Type 0} (style : Style) (has : HasSummary style) (O : Objec
   abbrev Fails : Standing Front Op → Records (RunRecord Op) → Type 0
   Fails p rs = FailsFrom O p.config (joined_steps (translation place style ks) p rs) line s n
 
-  -- where the run on the object is after a record
+  -- The state of the run on the object after a record.
   abbrev stand_after : Standing Front Op → Option (RunRecord Op) → Standing Front Op
   stand_after q None = q
   stand_after q (Some r) = after_record (translation place style ks) q r

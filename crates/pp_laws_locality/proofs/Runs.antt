@@ -1,4 +1,7 @@
--- A run is accepted exactly if its bookkeeping is right and its restriction to each object is accepted.
+-- A run is accepted exactly if its bookkeeping is right and its restriction to each object is accepted. It is enough to test the objects
+-- that the run is on. A start meets its criteria exactly if its ids are distinct and its restriction to each object does. If a step is
+-- rejected by a criterion that is not of the bookkeeping, the restriction to some object is rejected on the same line, at the same step, by
+-- the same criterion. No restriction is rejected at an earlier record.
 use Rattle.std.specs.Prelude.{◌≡◌, ◌≢◌, ◌↔◌, ◌⊎◌, ◌==◌, Bool, true, false, cond, ℕ, List, [], ◌∷◌, filter, map, Option, None, Some}
 use Rattle.std.proofs.Common.{refl, sym, ap, subst, ◌∙◌}
 use mathlib.Core.Logic.{inl, inr}
@@ -294,7 +297,7 @@ module _ {Op State : Type 0} (style : Style) (has : HasSummary style) (O : Objec
         let starts = λ (o : ℕ). start_of (restricted_start place o h) (restricted_records place o rs) (k.1 o) in
         from_parts k.0 starts (λ o. inl ((part_decided o (starts o)).1 (k.1 o)))
 
-    -- It is enough to ask the objects that the run is on.
+    -- It is enough to test the objects that the run is on.
     pub enough_objects : (objects : List ℕ) → StartIsOn place objects h → Each (IsOn place objects) (bare rs) → HasBookkeeping style O place ks h rs →
         ((o : ℕ) → In o objects → IsAccepted style O place ks (restricted_start place o h) (restricted_records place o rs)) → IsAccepted style O place ks h rs
     enough_objects objects start on book g = from_parts book starts parts

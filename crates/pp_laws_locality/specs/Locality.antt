@@ -73,7 +73,7 @@ pub record IsLocal {Op State : Type 0} (style : Style) (O : Object Op State) (pl
       ↔ (HasBookkeeping style O place ks h rs
       × ((o : ℕ) →
       IsAccepted style O place ks (restricted_start place o h) (restricted_records place o rs)))
-  -- It is enough to ask the objects that the run is on.
+  -- It is enough to test the objects that the run is on.
   pub enough :
       (ks : List Kind) (h : Option (Start Op)) (rs : Records (RunRecord Op)) (objects : List ℕ) →
       Each (IsOfStyle style) (bare rs) → StartIsOn place objects h →

@@ -1,5 +1,5 @@
--- Meaning: where a run is rejected: its first step that violates a criterion, the line of the step,
--- and the criterion.
+-- Meaning: the place at which a run is rejected: its first step that violates a criterion, the line
+-- of the step, and the criterion.
 use Rattle.std.specs.Prelude.{◌≡◌, ◌≤◌, ◌⊎◌, ℕ, suc, [], ◌∷◌}
 use Rattle.pp_model.specs.Config.{Config, Step, Begin, App, Unapp, Push, Unpush, Pull, Unpull, Cmt}
 use Rattle.pp_model.specs.Config.{Quit, Note, then}

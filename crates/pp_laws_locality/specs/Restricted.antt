@@ -21,8 +21,9 @@ without_body (Cmt t) = Cmt t
 without_body (Quit t) = Quit t
 without_body (Note t) = Note t
 
--- A begin loses its body. An operation or a refresh of another object leaves, and every other
--- record stays. So does a record of one step, of any object. In the styles of the law it is a BEGIN.
+-- A begin loses its body. An operation or a refresh of another object is left out, and every other
+-- record stays. A record of one step stays too, of any object. In the styles of the law it is a
+-- BEGIN.
 abbrev pub restricted : {Op : Type 0} → (Op → ℕ) → ℕ → RunRecord Op → Option (RunRecord Op)
 restricted place o (records.Plain step) = Some (records.Plain (without_body step))
 restricted place o (records.Op t id op) = cond (place op == o) (Some (records.Op t id op)) None

@@ -11,10 +11,11 @@ ghost use Rattle.pp_laws_summary.specs.LocalLogs.{HasSummary};
 use pp_kind::{Placed, Spec};
 
 /// A run is accepted exactly if its bookkeeping is right and its restriction to each object is
-/// accepted. It is enough to ask the objects that the run is on. A start meets its criteria exactly
-/// if its ids are distinct and its restriction to each object does. If a step is rejected by a
-/// criterion that is not of the bookkeeping, the restriction to some object is rejected on the same
-/// line, at the same step, by the same criterion. No restriction is rejected at an earlier record.
+/// accepted. It is enough to test the objects that the run is on. A start meets its criteria
+/// exactly if its ids are distinct and its restriction to each object does. If a step is rejected
+/// by a criterion that is not of the bookkeeping, the restriction to some object is rejected on the
+/// same line, at the same step, by the same criterion. No restriction is rejected at an earlier
+/// record.
 pub fn runs_are_local<S: Spec>()
     ensures { (shape : S.Shape) → LocalityLaw (rules_of S.object shape) }
 {}

@@ -26,7 +26,7 @@ after_step c (a ∷ past) s = after_step (then c a) past s
 pub fewer : {A : Type 0} (n : ℕ) (xs ys more : List A) → xs ≡ ys ++ more → n ≤ length ys → take n xs ≡ take n ys
 fewer {A} n xs ys more e l = ap (λ (w : List A). take n w) e ∙ take-append-le n ys more l
 
--- what t's attempt saw after `seen` it sees later, while its own list is the same
+-- The commits that t's attempt saw after `seen` it sees later, while its own list is the same.
 pub seen_later : {Op State : Type 0} (O : Object Op State) (h : Option (Start Op)) (met : StartMeets O h) (seen past : List (Step Op)) (t : Name)
     → RunsFrom O (first h) past → IsPrefix seen past → own_of t seen ≡ own_of t past → ((early : List (Step Op)) → Began t early seen → Began t early past)
     → SeesSome O h seen t → SeesSome O h past t
@@ -82,6 +82,6 @@ module _ {Op State : Type 0} (O : Object Op State) (h : Option (Start Op)) (met 
       let s = apps a.0 t (e.1).id (e.1).op (prefix_trans seen past ss a.1 b) in
       seen_later O h met seen past t r a.1 (a.2 ∙ sym e.2) a.3 s
 
--- what is true of all prefixes is true of those of a prefix
+-- If all prefixes of a run are opaque, so are those of a prefix.
 pub opaque_before : {Op State : Type 0} (O : Object Op State) (h : Option (Start Op)) (past ss : List (Step Op)) → IsPrefix past ss → IsOpaque O h ss → IsOpaque O h past
 opaque_before O h past ss b opaque early t i = opaque early t (prefix_trans early past ss i b)

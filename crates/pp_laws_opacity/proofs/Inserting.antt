@@ -128,7 +128,7 @@ module _ {Op : Type 0} (t : Name) (seen : List (Step Op)) where
       let r = insert_split n p.0 p.1 q in
       (r.0, r.1, ap (λ (w : List (Execution Op)). insert n w) p.2 ∙ r.2, ap (λ (w : List (Attempt Op)). length w) r.3 ∙ p.3)
 
-  -- it is where it was put
+  -- An attempt that is inserted is at the place at which it was inserted.
   pub insert_there : (n : ℕ) (l : List (Execution Op)) → n ≤ length (committed_in l) → IsPlaced x (insert n l) n
   insert_there zero l h = ([], l, refl, refl)
   insert_there (suc n) [] h = absurd (omega (arith, h))
@@ -249,7 +249,7 @@ pub committed_placed : {Op : Type 0} (A1 : List (Attempt Op)) (a : Attempt Op) (
 committed_placed A1 a A2 [] = base_placed A1 a A2
 committed_placed A1 a A2 (c ∷ N) = insert_placed c.tx c.seen c.n (built (A1 ++ a ∷ A2) N) (Committed a) (length A1) (committed_placed A1 a A2 N)
 
--- An attempt that was put in is placed after as many commits as it was given.
+-- An inserted attempt is placed after as many commits as its number says.
 pub part_placed : {Op : Type 0} (A : List (Attempt Op)) (N : List (Place Op)) → ((c : Place Op) → In c N → c.n ≤ length A) → (c : Place Op) → In c N → IsPlaced (part c) (built A N) c.n
 part_placed A [] most c i = absurd i
 part_placed {Op} A (d ∷ N) most c (inl e) =

@@ -97,7 +97,7 @@ module _ {Op State : Type 0} (O : Object Op State) where
   ]
 
   module _ (h : Option (Start Op)) (met : StartMeets O h) where
-    -- The first n attempts of a run have the serial run that they have in a prefix with n of them.
+    -- The first n attempts of a run have the same serial run as in a prefix with n of them.
     pub seen_in_whole : (past ss : List (Step Op)) (t : Name) (n : ℕ) → RunsFrom O (first h) ss → IsPrefix past ss → n ≤ length (attempts h past)
         → serial (take n (attempts h ss)) ≡ serial (take n (attempts h past))
     seen_in_whole past ss t n run b l =
@@ -286,7 +286,7 @@ module _ {Op State : Type 0} (O : Object Op State) where
           same : (t : Name) (seen : List (Step Op)) (d : Place Op) → Uncommitted t seen ≡ part d → unfinished_of d ≡ unfinished_at t seen
           same t seen d e = let n : d.tx ≡ t = cc in let s : d.seen ≡ seen = cc in ap (λ (w : Name). unfinished_at w d.seen) n ∙ ap (λ (w : List (Step Op)). unfinished_at t w) s
 
-    -- what a sequence says of an open attempt
+    -- An opaque order has an execution for each open attempt.
     pub seen_some : (past : List (Step Op)) → RunsFrom O (first h) past → (order : List (Execution Op)) → IsOpaqueOrder O h past order → (t : Name) → IsOpen h past t → own_of t past ≢ [] → SeesSome O h past t
     seen_some past run order s t open_there some =
         let p : Execution Op = Uncommitted t past in

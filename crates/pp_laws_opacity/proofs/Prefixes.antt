@@ -1,4 +1,4 @@
--- Proof machinery: prefixes of a run, and where attempts began.
+-- Proof machinery: prefixes of a run, and the starts of attempts.
 use Rattle.std.specs.Prelude.{◌≡◌, ◌≢◌, ◌⊎◌, List, [], ◌∷◌, ◌++◌, Option, Some}
 use Rattle.std.proofs.Common.{refl, sym, ap, subst, ◌∙◌, append_assoc}
 use Rattle.std.proofs.lemmas.List.{append-nil, append_cancel_left}
@@ -101,7 +101,7 @@ starts_or_not {Op} t past s = elim (may_start t s) [
 pub began_new : {Op : Type 0} (t : Name) (past : List (Step Op)) → Starts t past → Began t past past
 began_new t past s = record { starts = s; within = prefix_same past; last = λ later b k. b }
 
--- A step that starts no attempt of a transaction leaves where its attempt began.
+-- A step that starts no attempt of a transaction does not change the start of its attempt.
 pub began_kept : {Op : Type 0} (t : Name) (early past : List (Step Op)) (s : Step Op) → Began t early past → (Starts t (past ++ s ∷ []) → ⊥) → Began t early (past ++ s ∷ [])
 began_kept {Op} t early past s b n = record {
   starts = b.starts;
@@ -117,7 +117,7 @@ pub began_one : {Op : Type 0} (t : Name) (ss e f : List (Step Op)) → Began t e
 began_one t ss e f b c = prefix_both e f (c.last e b.within b.starts) (b.last f c.within c.starts)
 
 module _ {Op State : Type 0} (O : Object Op State) (h : Option (Start Op)) (met : StartMeets O h) where
-  -- what has a BEGIN began
+  -- A transaction with a BEGIN has an attempt that began.
   began_body : (t : Name) (ss : List (Step Op)) → RunsFrom O (first h) ss → bodies_of t ss ≢ [] → (early : List (Step Op)) × Began t early ss
   began_body t ss run = along_from O h met (λ w. bodies_of t w ≢ [] → (early : List (Step Op)) × Began t early w) step [] ss (λ n. absurd (n refl)) run
     where
@@ -150,7 +150,7 @@ module _ {Op State : Type 0} (O : Object Op State) (h : Option (Start Op)) (met 
         ]
       ]
 
-  -- what applied something has a BEGIN
+  -- A transaction without a BEGIN applied nothing.
   has_body : (t : Name) (ss : List (Step Op)) → RunsFrom O (first h) ss → bodies_of t ss ≡ [] → own_of t ss ≡ []
   has_body t ss run = along_from O h met (λ w. bodies_of t w ≡ [] → own_of t w ≡ []) step [] ss (λ e. refl) run
     where

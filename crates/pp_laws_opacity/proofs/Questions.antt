@@ -121,7 +121,7 @@ IsAsked {Op} h ss q =
 asked_later : {Op : Type 0} (h : Option (Start Op)) (past : List (Step Op)) (s : Step Op) (ss : List (Step Op)) (q : Question Op) → IsAsked h ((past ++ s ∷ []) ++ ss) q → IsAsked h (past ++ s ∷ ss) q
 asked_later {Op} h past s ss q k = subst (λ (w : List (Step Op)). IsAsked h w q) (append_assoc past (s ∷ []) ss) k
 
--- each question is asked after an APP
+-- Each question is about the steps up to an APP.
 asked : {Op : Type 0} (h : Option (Start Op)) (past ss : List (Step Op)) (q : Question Op) → In q (questions_after h past ss)
     → IsAsked h (past ++ ss) q
 asked h past [] q i = absurd i

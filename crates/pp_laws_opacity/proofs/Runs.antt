@@ -71,7 +71,7 @@ module _ {Op State : Type 0} (O : Object Op State) where
     pub meets_at : (p q : List (Step Op)) (s : Step Op) → RunsFrom O (first h) (p ++ s ∷ q) → Meets O (after h p) s
     meets_at p q s r = run_at (first h) p q s r
 
-    -- what is true of a prefix and kept by each step is true later
+    -- A property of a prefix that each step keeps is true later.
     pub along_from : (P : List (Step Op) → Type 0)
         → ((past : List (Step Op)) (s : Step Op) → RunsFrom O (first h) (past ++ s ∷ []) → P past → P (past ++ s ∷ []))
         → (past ss : List (Step Op)) → P past → RunsFrom O (first h) (past ++ ss) → P (past ++ ss)

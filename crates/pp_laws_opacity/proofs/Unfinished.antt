@@ -35,7 +35,7 @@ prefix_length {Op} a b i = let e : length b ≡ length a + length i.0 = ap (λ (
 pub prefix_shorter : {Op : Type 0} (a b : List (Step Op)) (s : Step Op) → IsPrefix (a ++ s ∷ []) b → length a < length b
 prefix_shorter a b s i = let l = prefix_length (a ++ s ∷ []) b i in let e : length (a ++ s ∷ []) ≡ length a + 1 = length-append a (s ∷ []) in omega (arith, l, e)
 
--- what the UNAPP steps of `ss`, which follow `past`, give up
+-- The unfinished attempts that the UNAPP steps of `ss`, which follow `past`, give up.
 abbrev pub given_up : {Op : Type 0} → List (Step Op) → List (Step Op) → List (Unfinished Op)
 given_up past [] = []
 given_up past (Unapp t id ∷ ss) = unfinished_at t past ∷ given_up (past ++ Unapp t id ∷ []) ss

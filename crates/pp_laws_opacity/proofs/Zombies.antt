@@ -23,7 +23,7 @@ prefix_whole {Op} a b (x ∷ rest, e) = inr (λ same. longer a rest x (same ∙ 
     longer [] rest x e = cc
     longer (y ∷ a) rest x e = longer a rest x (let k : a ≡ a ++ x ∷ rest = cc in k)
 
--- of two prefixes of one list, one is a prefix of the other
+-- One of two prefixes of a list is a prefix of the other.
 one_within : {Op : Type 0} (a b ra rb : List (Step Op)) → a ++ ra ≡ b ++ rb → IsPrefix a b ⊎ IsPrefix b a
 one_within [] b ra rb e = inl (b, refl)
 one_within (x ∷ a) [] ra rb e = inr (x ∷ a, refl)

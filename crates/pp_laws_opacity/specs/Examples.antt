@@ -1,5 +1,5 @@
--- What is not enough for opacity, each with an accepted run that is not opaque; and what opacity
--- does not require.
+-- Conditions that are not enough for opacity, each with an accepted run that is not opaque, and
+-- conditions that opacity does not require.
 use Rattle.std.specs.Prelude.{◌≡◌, ℕ, true, List, [], ◌∷◌}
 use Rattle.pp_core.specs.declared.call.Style.TheVariants.{Optimistic}
 use Rattle.pp_records.specs.Expansions.{IsOfStyle}

@@ -1,4 +1,4 @@
--- What is true of opacity in every accepted run.
+-- Facts about opacity in every accepted run.
 use Rattle.std.specs.Prelude.{◌≡◌, ◌↔◌, ◌≤◌, ◌+◌, ◌++◌, ℕ, List, Option, length, take}
 use Rattle.pp_model.specs.Config.{Start, Step, first}
 use Rattle.pp_model.specs.Names.{Name}
@@ -22,7 +22,7 @@ module _ {Op State : Type 0} (O : Object Op State) where
       (h : Option (Start Op)) (past ss : List (Step Op)) → IsPrefix past ss →
       IsOpaque O h ss → IsOpaque O h past
 
-  -- It is the same to ask right after each APP.
+  -- Testing right after each APP is the same.
   abbrev pub AppLaw : Type 0
   AppLaw =
       (h : Option (Start Op)) (ss : List (Step Op)) → StartMeets O h → RunsFrom O (first h) ss →
@@ -34,7 +34,8 @@ module _ {Op State : Type 0} (O : Object Op State) where
       (h : Option (Start Op)) (ss : List (Step Op)) → StartMeets O h → RunsFrom O (first h) ss →
       IsOpaque O h ss ↔ HasOpaqueOrders O h ss
 
-  -- What an attempt sees may be read off the whole run, since later commits come later in it.
+  -- The operations that an attempt sees may be read off the whole run, since later commits come
+  -- later in it.
   pub record WholeLaw : Type 0 where
     pub sees : (h : Option (Start Op)) (past ss : List (Step Op)) (t : Name) (n : ℕ) →
         StartMeets O h → RunsFrom O (first h) ss → IsPrefix past ss →

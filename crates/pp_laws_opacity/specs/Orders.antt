@@ -13,7 +13,7 @@ pub data Execution (Op : Type 0) : Type 0 where
   Committed : (a : Attempt Op) → Execution Op
   Uncommitted : (t : Name) → (seen : List (Step Op)) → Execution Op
 
--- what an execution applied
+-- the items that an execution applied
 abbrev pub items_of : {Op : Type 0} → Execution Op → List (Item Op)
 items_of (Committed a) = a.items
 items_of (Uncommitted t seen) = own_of t seen

@@ -52,7 +52,7 @@ pub record Question (Op : Type 0) : Type 0 where
   pub least : ℕ
   pub most : ℕ
 
--- what is asked of t after these steps
+-- the question about t after these steps
 abbrev pub question : {Op : Type 0} → Option (Start Op) → Name → List (Step Op) → Question Op
 question h t past =
     record {
@@ -61,7 +61,7 @@ question h t past =
       most = length (attempts h past);
     }
 
--- what is asked right after the APP steps of `ss`, which follow `past`
+-- the questions right after the APP steps of `ss`, which follow `past`
 abbrev pub questions_after : {Op : Type 0} → Option (Start Op) → List (Step Op) → List (Step Op) →
     List (Question Op)
 questions_after h past [] = []
@@ -82,7 +82,7 @@ abbrev pub questions : {Op : Type 0} → Option (Start Op) → List (Step Op) �
 questions h ss = questions_after h [] ss
 
 module _ {Op State : Type 0} (O : Object Op State) where
-  -- Some number of commits of the run answers the question.
+  -- Some number of commits of the run is an answer to the question.
   abbrev pub HasAnswer : Option (Start Op) → List (Step Op) → Question Op → Type 0
   HasAnswer h ss q =
       (n : ℕ) × (q.least ≤ n) × (n ≤ q.most)

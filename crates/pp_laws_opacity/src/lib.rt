@@ -35,8 +35,8 @@ pub fn app_law<S: Spec>()
     ensures { (shape : S.Shape) → AppLaw (rules_of S.object shape) }
 {}
 
-/// What an attempt sees may be read off the whole run, and the ends of its window are counts of
-/// commits.
+/// The operations that an attempt sees may be read off the whole run, and the ends of its window
+/// are counts of commits.
 pub fn whole_law<S: Spec>()
     ensures { (shape : S.Shape) → WholeLaw (rules_of S.object shape) }
 {}

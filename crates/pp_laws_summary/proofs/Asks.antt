@@ -1,4 +1,4 @@
--- Steps and what a summary asks of them: when the two have one verdict.
+-- Steps and the conditions of a summary: when the two have one verdict.
 use Rattle.std.specs.Prelude.{◌≡◌, ◌↔◌, ℕ, zero, suc, List, [], ◌∷◌, ◌++◌, length, Option, None, Some}
 use Rattle.std.proofs.Common.{sym, subst}
 use mathlib.Core.Logic.{inl, inr}
@@ -30,23 +30,23 @@ alike (p ∷ ps) (q ∷ qs) a (suc (suc n)) = (
   (λ h. (a.0.1 h.0, (alike ps qs a.1 (suc n)).1 h.1)),
 )
 
--- what is asked of a thing that is there
+-- The conditions on a value that is there are those of its facts.
 pub there_one : {A : Type 0} (w : Option A) (F : A → List (Type 0)) (x : A) → w ≡ Some x → (qs : List (Type 0)) → Alike qs (Unit {0} ∷ F x) → (n : ℕ) → FirstFalse qs n ↔ FirstFalse (there w F) n
 there_one {A} w F x e qs k n = subst (λ (z : Option A). FirstFalse qs n ↔ FirstFalse (there z F) n) (sym e) (alike qs (Unit {0} ∷ F x) k n)
 
--- what is asked of two things that are there
+-- The conditions on two values that are there are those of their facts.
 pub there_two : {A B : Type 0} (w : Option A) (F : A → Option B) (G : A → B → List (Type 0)) (x : A) (g : B) → w ≡ Some x → F x ≡ Some g → (qs : List (Type 0)) →
     Alike qs (Unit {0} ∷ Unit {0} ∷ G x g) → (n : ℕ) → FirstFalse qs n ↔ FirstFalse (there w (λ z. there (F z) (λ h. G z h))) n
 there_two {A} {B} w F G x g e d qs k n =
     subst (λ (z : Option A). FirstFalse qs n ↔ FirstFalse (there z (λ y. there (F y) (λ h. G y h))) n) (sym e)
     (subst (λ (z : Option B). FirstFalse qs n ↔ FirstFalse (Unit {0} ∷ there z (λ h. G x h)) n) (sym d) (alike qs (Unit {0} ∷ Unit {0} ∷ G x g) k n))
 
--- what is asked of a thing that is not there
+-- If a value is not there, the first condition is false.
 pub there_none : {A : Type 0} (w : Option A) (F : A → List (Type 0)) → w ≡ None → (n : ℕ) → FirstFalse (⊥ ∷ []) n ↔ FirstFalse (there w F) n
 there_none {A} w F e n = subst (λ (z : Option A). FirstFalse (⊥ ∷ []) n ↔ FirstFalse (there z F) n) (sym e) ((λ h. h), (λ h. h))
 
 module _ {Op State : Type 0} (O : Object Op State) where
-  -- What is asked matches the steps: one for one, with the same criterion, while they are met.
+  -- The conditions match the steps: one for one, with the same criterion, while they are met.
   abbrev pub Matches : Config Op → List (Step Op) → List (Asked Op) → Type 0
   Matches c [] [] = Unit {0}
   Matches c [] (a ∷ qs) = ⊥

@@ -19,7 +19,7 @@ is_done_at place o g = g.committed && (place g.op == o)
 abbrev pub is_pulled_at : {Op : Type 0} → (Op → ℕ) → ℕ → LocalEntry Op → Bool
 is_pulled_at place o e = is_mark e.mark Pulled && (place e.op == o)
 
--- what the committed entries of the object are
+-- A committed entry of an object is an entry of the shared log, committed, and on the object.
 pub from_done : {Op : Type 0} (place : Op → ℕ) (o : ℕ) (G : List (SharedEntry Op)) (g : SharedEntry Op) → In g (done_at place o G) → In g G × (g.committed ≡ true) × (place g.op ≡ o)
 from_done place o G g i =
     let f = from_filter (is_done_at place o) g G i in
@@ -30,7 +30,7 @@ from_done place o G g i =
 pub to_done : {Op : Type 0} (place : Op → ℕ) (o : ℕ) (G : List (SharedEntry Op)) (g : SharedEntry Op) → In g G → g.committed ≡ true → place g.op ≡ o → In g (done_at place o G)
 to_done place o G g i u e = in_filter (is_done_at place o) g G i (and_true g.committed (place g.op == o) u (eq-eqb (place g.op) o e))
 
--- what the pulled entries on the object are
+-- A pulled entry on an object is an entry of the local log, pulled, and on the object.
 pub from_pulled : {Op : Type 0} (place : Op → ℕ) (o : ℕ) (l : List (LocalEntry Op)) (e : LocalEntry Op) → In e (pulled_at place o l) → In e l × (e.mark ≡ Pulled) × (place e.op ≡ o)
 from_pulled place o l e i =
     let f = from_filter (is_pulled_at place o) e l i in
@@ -41,7 +41,7 @@ from_pulled place o l e i =
 pub to_pulled : {Op : Type 0} (place : Op → ℕ) (o : ℕ) (l : List (LocalEntry Op)) (e : LocalEntry Op) → In e l → e.mark ≡ Pulled → place e.op ≡ o → In e (pulled_at place o l)
 to_pulled place o l e i m n = in_filter (is_pulled_at place o) e l i (and_true (is_mark e.mark Pulled) (place e.op == o) (ap (λ (w : Mark). is_mark w Pulled) m) (eq-eqb (place e.op) o n))
 
--- what is filtered twice
+-- Filtering a list twice is filtering it by both tests.
 pub filter_twice : {A : Type 0} (p q : A → Bool) (l : List A) → filter p (filter q l) ≡ filter (λ x. q x && p x) l
 filter_twice p q [] = refl
 filter_twice {A} p q (x ∷ l) = by (q x) (filter_twice p q l)

@@ -50,7 +50,7 @@ module _ {Op State : Type 0} (O : Object Op State) (place : Op → ℕ) (part : 
     ix : In x c.opened
     ix = (found_tx t c.opened x lookup).0
 
-    -- where a commit leads
+    -- The configuration after a commit.
     abbrev pub committed : Config Op
     committed = record c {
       opened = without_tx t c.opened;
@@ -102,7 +102,7 @@ module _ {Op State : Type 0} (O : Object Op State) (place : Op → ℕ) (part : 
         let r = from_map as_pushed e x.local i in
         ap (λ (w : LocalEntry Op). w.mark) r.2 ∙ was_own r.0 (r.0).mark refl (ap (λ (w : LocalEntry Op). is_own w.mark) (sym r.2) ∙ o)
 
-    -- What it pulled is committed.
+    -- An entry that the transaction pulled is committed.
     pub late_done : (e : LocalEntry Op) → In e (map as_pushed x.local) → e.mark ≡ Pulled → (g : SharedEntry Op) × In g (c.shared ++ posted t (unpushed x.local)) × (g.id ≡ e.id) × (g.committed ≡ true)
     late_done e i m =
         let r = from_map as_pushed e x.local i in
@@ -153,7 +153,7 @@ module _ {Op State : Type 0} (O : Object Op State) (place : Op → ℕ) (part : 
     commit_good Hardware h r = record { word = late_is r; pushed = late_pushes r }
     commit_good Dependent h r = absurd h
 
-    -- where the steps of a commit lead
+    -- The steps of a commit lead to `committed`.
     pub commit_leads : (style : Style) → HasSummary style → RunsFrom O c (commit_steps style x.local t) → after_from c (commit_steps style x.local t) ≡ committed
     commit_leads Rules h r = absurd h
     commit_leads Boosted h r = alone_leads r.0

@@ -68,7 +68,7 @@ taken_count {Op} t (e ∷ l) = by e.mark refl (taken_count t l)
         ∙ ap (λ (w : List (LocalEntry Op)). (length (cond (is_own m) (e ∷ own l) (own l)) + length (map (λ (z : LocalEntry Op). z.id) w)) + length (cond (is_mark m Pulled) (e ∷ pulled_of l) (pulled_of l))) (sym (pushed_first m h))
         ∙ ap (λ (w : Mark). own_count (cond (is_own w) (e ∷ own l) (own l)) + length (cond (is_mark w Pulled) (e ∷ pulled_of l) (pulled_of l))) (sym h)
 
--- What is in the first part of a list is in the list.
+-- An element of the first part of a list is in the list.
 pub in_taken : {A : Type 0} (n : ℕ) (l : List A) (x : A) → In x (take n l) → In x l
 in_taken {A} n l x i = subst (λ (w : List A). In x w) (take-append-drop n l) (in_left x (take n l) (drop n l) i)
 
@@ -83,7 +83,7 @@ module _ {Op State : Type 0} (O : Object Op State) (place : Op → ℕ) (c : Con
   serial_in : (o : ℕ) (p : Item Op) → In p (serial_at place o c.done) → In p (serial_items c.done)
   serial_in o p i = (from_filter (λ (w : Item Op). place w.op == o) p (serial_items c.done) i).0
 
-  -- A log with snapshots has an entry of each operation that they have, and no other pulled one.
+  -- A log with snapshots has an entry for each operation in them, and no other pulled one.
   module _ (l : List (LocalEntry Op)) (d : (a b : LocalEntry Op) → Before a b l → a.id ≢ b.id) (v : HasSnapshots O place c.done l) where
     abbrev seen : ℕ → ℕ
     seen o = seen_at place o l
@@ -151,7 +151,7 @@ module _ {Op State : Type 0} (O : Object Op State) (place : Op → ℕ) (part : 
     nx : x.name ≡ t
     nx = (found_tx t c.opened x lookup).1
 
-    -- what is missed
+    -- The summary's count of missed entries is the number of missed entries.
     missed : (o : ℕ) → missing_count place o B y ≡ length (missing_at place o c.shared x.local)
     missed o =
         let N = missing_at place o c.shared x.local in
@@ -208,7 +208,7 @@ module _ {Op State : Type 0} (O : Object Op State) (place : Op → ℕ) (part : 
     commits Hardware h = ap (λ (n : ℕ). n + 1) pushes ∙ sym (length-append (pushall t x.local) (Cmt t ∷ []))
     commits Dependent h = absurd h
 
-    -- what is taken back
+    -- The summary's count of entries taken back is the number of the steps.
     pub all_back : back_count place B y ≡ length (taken_out t (drop 0 x.local))
     all_back =
         let a : length (taken_out t x.local) ≡ own_count (own x.local) + length (pulled_of x.local) = taken_count t x.local in
@@ -222,7 +222,7 @@ module _ {Op State : Type 0} (O : Object Op State) (place : Op → ℕ) (part : 
         let d = all_back in
         omega arith
 
-    -- what a section added is taken back
+    -- The entries that a section added are taken back.
     marked : (o : Option ℕ) → f.section x.name ≡ o → HasSnapshots O place c.done (take (mark_of o) x.local)
     marked None e = snaps.no_snapshots O place c.done
     marked (Some m) e = (b.sections x ix m e).1
@@ -236,7 +236,7 @@ module _ {Op State : Type 0} (O : Object Op State) (place : Op → ℕ) (part : 
     own_after None = refl
     own_after (Some m) = sym (own_drop m x.local)
 
-    -- What a section added is counted.
+    -- The summary's count of what a section added is the number of the steps that take it back.
     pub since : section_count place B y ≡ length (taken_out t (drop (mark_of (f.section x.name)) x.local))
     since =
         let o = f.section x.name in

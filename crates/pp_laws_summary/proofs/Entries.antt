@@ -47,7 +47,7 @@ pub stands_in-snoc : {Op : Type 0} (id : ℕ) (L : List (LocalEntry Op)) (e : Lo
 stands_in-snoc id [] e n = elim (eqb_tells e.id id) [ inl r ↦ absurd (n r.1) | inr r ↦ ap (λ (b : Bool). b || false) r.0 ]
 stands_in-snoc id (a ∷ L) e n = ap (λ (b : Bool). (a.id == id) || b) (stands_in-snoc id L e n)
 
--- What is not true is false.
+-- A Boolean that is not true is false.
 pub was_false : (b : Bool) → not b ≡ true → b ≡ false
 was_false true e = cc
 was_false false e = refl

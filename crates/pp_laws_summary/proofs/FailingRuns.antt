@@ -27,7 +27,7 @@ use Rattle.pp_laws_summary.proofs.LocalRecords.{keeps}
 use Rattle.pp_laws_summary.proofs.SummaryRuns.{decides_records}
 
 module _ {Op State : Type 0} (O : Object Op State) (place : Op → ℕ) (part : PlacesPart O place) (tells : TellsStates O) (style : Style) (has : HasSummary style) where
-  -- What the summaries ask of the records matches their steps.
+  -- The conditions of the summaries on the records match their steps.
   pub run_match : (ks : List Kind) (rs : Records (RunRecord Op)) (p : Standing Front Op) → Each (IsOfStyle style) (bare rs) → Summable O place p.front p.config →
       Matches O p.config (bare (joined_steps (translation place style ks) p rs)) (run_asks style O place (summary_of place p) (bare rs))
   run_match ks [] p s b = tt

@@ -1,4 +1,4 @@
--- What a summary asks of a record is asked of its steps, one for one.
+-- The conditions of a summary on a record are those of its steps, one for one.
 use Rattle.std.specs.Prelude.{◌≡◌, ℕ, suc, List, [], ◌∷◌, ◌++◌, drop, length, map, Option, None, Some}
 use Rattle.std.proofs.Common.{refl, sym, ap, subst, ◌∙◌}
 use Rattle.pp_core.specs.declared.call.Style.{Style}
@@ -97,7 +97,7 @@ module _ {Op State : Type 0} (O : Object Op State) (place : Op → ℕ) (part : 
       by None e = subst (λ (w : Option (Tx Op)). AreSteps (open_asks (to_open place f w) alone F) (steps_of_open w alone ss)) (sym e) (refl, tt)
       by (Some x) e = subst (λ (w : Option (Tx Op)). AreSteps (open_asks (to_open place f w) alone F) (steps_of_open w alone ss)) (sym e) (some x e)
 
-  -- What the summary asks of a record is asked of its steps.
+  -- The conditions of the summary on a record are those of its steps.
   pub record_are : (r : RunRecord Op) → IsOfStyle style r → AreSteps (record_asks style O place B r) (expand place style f c r)
   record_are = by_record style has (λ r. AreSteps (record_asks style O place B r) (expand place style f c r))
       (λ t p w. (refl, tt))

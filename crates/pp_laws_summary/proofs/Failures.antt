@@ -76,7 +76,7 @@ module _ {Op State : Type 0} (O : Object Op State) (place : Op → ℕ) (part : 
     of_own : (a : LocalEntry Op) → In a (own x.local) → In a x.local × (is_own a.mark ≡ true)
     of_own a i = own_of_in O place part tells style has f c b t x lookup a i
 
-    -- what is allowed after the view is allowed after the whole log
+    -- After the whole log, the same operations of the object are allowed as after the view.
     view_whole : (o : ℕ) (k : List Op) → AllAt place o k → Allowed O (summary_view place o c.done y ++ k) ↔ Allowed O (local_ops x.local ++ k)
     view_whole o k at = (
       (λ h. whole_from_part O place part o (local_ops x.local) k at (b.sound.local_allowed x ix) (log_from O place part tells f c b t x lookup o k h)),
@@ -370,7 +370,7 @@ module _ {Op State : Type 0} (O : Object Op State) (place : Op → ℕ) (part : 
   note_none : (t : Name) → tx t c.opened ≡ None → (n : ℕ) → FirstFalse (⊥ ∷ []) n ↔ FirstFalse (criteria O c (Note t)) n
   note_none t e = there_none (tx t c.opened) (λ (w : Tx Op). []) e
 
-  -- What the summary asks of a record matches its steps.
+  -- The conditions of the summary on a record match its steps.
   pub record_match : (r : RunRecord Op) → IsOfStyle style r → Matches O c (expand place style f c r) (record_asks style O place B r)
   record_match = by_record style has (λ r. Matches O c (expand place style f c r) (record_asks style O place B r))
       (λ t p w. (refl, alike ((In t c.names → ⊥) ∷ ((x : OpenSummary Op) → In x B.opened → x.thread ≢ p) ∷ []) (criteria O c (Begin t p w)) (same (In t c.names → ⊥), (threads p, tt)), (λ q. tt)))

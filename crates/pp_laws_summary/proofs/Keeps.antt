@@ -1,4 +1,4 @@
--- What holds between the records of a run is kept.
+-- The facts between the records of a run stay true.
 use Rattle.std.specs.Prelude.{◌≡◌, ◌≢◌, ◌≤◌, ◌+◌, ℕ, zero, ◌==◌, Bool, true, false, not, cond, ◌&&◌, List, [], ◌∷◌, ◌++◌, map, filter, take, drop, length, if◌then◌else◌, Option, Some, None}
 use Rattle.std.proofs.Common.{refl, sym, ap, subst, ◌∙◌, arith, append_assoc, take-append-drop, length-append}
 use Rattle.std.proofs.lemmas.List.{append-nil, take-append-le}
@@ -215,7 +215,7 @@ module _ {Op State : Type 0} (O : Object Op State) (place : Op → ℕ) (part : 
     pub back_runs : (n : ℕ) → RunsFrom O c (Note t ∷ taken_out t (drop n x.local))
     back_runs n = (there_is (tx t c.opened) _ x lookup refl, (all_back O t (drop n x.local) (take n x.local) c x b.sound lookup (sym (take-append-drop n x.local))).0)
 
-    -- where the steps of a return lead
+    -- The steps of a return lead to the configuration with the first n entries of the log.
     pub back_leads : (n : ℕ) → after_from c (taken_out t (drop n x.local)) ≡ left O t c (take n x.local) (drop n x.local)
     back_leads n = (all_back O t (drop n x.local) (take n x.local) c x b.sound lookup (sym (take-append-drop n x.local))).1
 

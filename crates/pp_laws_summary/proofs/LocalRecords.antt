@@ -114,7 +114,7 @@ of_style Hardware h (records.Depend t u) s = absurd s
 of_style Hardware h (records.Publish t) s = absurd s
 of_style Hardware h (records.DropSource t u) s = absurd s
 
--- what holds of the nine records
+-- A property of the nine kinds of records is a property of each record.
 by_any : {Op : Type 0} (P : RunRecord Op → Type 0) → ((t p : Name) (w : Option Tree) → P (records.Plain (Begin t p w))) →
     ((t : Name) (id : ℕ) (op : Op) → P (records.Op t id op)) → ((t : Name) → P (records.Commit t)) → ((t : Name) → P (records.Abort t)) →
     ((t : Name) → P (records.Retry t)) → ((t : Name) (o : ℕ) → P (records.Refresh t o)) → ((t : Name) → P (records.XBegin t)) → ((t : Name) → P (records.XEnd t)) → ((t : Name) → P (records.XAbort t)) →

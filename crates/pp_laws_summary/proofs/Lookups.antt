@@ -1,4 +1,4 @@
--- What the lookups of a sound configuration find, and where its entries come from.
+-- The results of the lookups in a sound configuration, and the origins of its entries.
 use Rattle.std.specs.Prelude.{◌≡◌, ◌≢◌, ℕ, ◌==◌, Bool, true, false, not, ◌&&◌, List, Option, Some}
 use Rattle.std.proofs.Common.{refl, sym, ap, subst, ◌∙◌}
 use Rattle.std.proofs.lemmas.Bool.{eqb-true, eq-eqb}
@@ -45,6 +45,6 @@ other_is {Op} O c s t g i n = find_only (λ (w : SharedEntry Op). (w.id == g.id)
 pub done_by_other : {Op State : Type 0} (O : Object Op State) (c : Config Op) → Sound O c → (x : Tx Op) → In x c.opened → (g : SharedEntry Op) → In g c.shared → g.committed ≡ true → g.owner ≢ x.name
 done_by_other {Op} O c s x i g j u e = let d = s.committed_from g j u in s.apart x d.0 i d.1 (sym e ∙ ap (λ (w : SharedEntry Op). w.owner) d.4)
 
--- what holds of the one that is there
+-- If a value is there and no fact of `there` is false, no fact of the value is false.
 pub there_of : {A : Type 0} (o : Option A) (F : A → List (Type 0)) (x : A) → o ≡ Some x → FirstFalse (there o F) 0 → FirstFalse (F x) 0
 there_of {A} o F x e h = (subst (λ (w : Option A). FirstFalse (there w F) 0) e h).1

@@ -1,4 +1,4 @@
--- A list of PULL steps: what they ask together, and where they lead.
+-- A list of PULL steps: their joint conditions, and the configuration after them.
 use Rattle.std.specs.Prelude.{◌≡◌, ◌≢◌, true, false, List, [], ◌∷◌, ◌++◌, map, Option, Some}
 use Rattle.std.proofs.Common.{refl, sym, ap, subst, ◌∙◌, append_assoc}
 use Rattle.std.proofs.lemmas.List.{append-nil, map-append}
@@ -27,7 +27,7 @@ pub record Pulling {Op State : Type 0} (O : Object Op State) (t : Name) (c : Con
   pub distinct : (g h : SharedEntry Op) → Before g h M → g.id ≢ h.id
   pub out : (g : SharedEntry Op) → In g M → (e : LocalEntry Op) → In e x.local → e.id ≢ g.id
 
--- what the steps ask
+-- The joint conditions of the steps.
 pub record Asks {Op State : Type 0} (O : Object Op State) (x : Tx Op) (M : List (SharedEntry Op)) : Type 0 where
   pub allowed : Allowed O (local_ops x.local ++ shared_ops M)
   pub swaps : (a : LocalEntry Op) (g : SharedEntry Op) → In a x.local → is_own a.mark ≡ true → In g M → Swaps O a.op g.op
@@ -37,8 +37,7 @@ module _ {Op State : Type 0} (O : Object Op State) (t : Name) where
   abbrev pub pulls : List (SharedEntry Op) → List (Step Op)
   pulls M = map (λ g. Pull t g.id) M
 
-  -- The steps meet their criteria exactly if what they ask is true, and then they lead to the log
-  -- with M pulled.
+  -- The steps meet their criteria exactly if their joint conditions are true, and then they lead to the log with M pulled.
   abbrev pub Goal : Config Op → Tx Op → List (SharedEntry Op) → Type 0
   Goal c x M = (Asks O x M → RunsFrom O c (pulls M)) × (RunsFrom O c (pulls M) → Asks O x M × (after_from c (pulls M) ≡ relogged c t (x.local ++ map as_pulled M)))
 

@@ -1,4 +1,4 @@
--- A pushall: what its steps ask together, and where it leads.
+-- A pushall: the joint conditions of its steps, and the configuration after it.
 use Rattle.std.specs.Prelude.{◌≡◌, ◌≢◌, Bool, true, false, cond, List, [], ◌∷◌, ◌++◌, map, Option, Some}
 use Rattle.std.proofs.Common.{refl, sym, ap, subst, ◌∙◌, append_assoc}
 use Rattle.std.proofs.lemmas.List.{append-nil, map-append}
@@ -28,7 +28,7 @@ pub record Pushing {Op State : Type 0} (O : Object Op State) (t : Name) (c : Con
   pub log : x.local ≡ P ++ S
   pub pushed : (a : LocalEntry Op) → In a P → a.mark ≢ Unpushed
 
--- what the pushes of these entries ask
+-- The joint conditions of the pushes of these entries.
 pub record PushAsks {Op State : Type 0} (O : Object Op State) (t : Name) (c : Config Op) (M : List (LocalEntry Op)) : Type 0 where
   pub passes : (e : LocalEntry Op) (u : SharedEntry Op) → In e M → In u c.shared → u.committed ≡ false → u.owner ≢ t → Swaps O u.op e.op
   pub allowed : Allowed O (shared_ops c.shared ++ local_ops M)
@@ -42,8 +42,7 @@ module _ {Op State : Type 0} (O : Object Op State) (t : Name) where
   abbrev pub led : Config Op → List (LocalEntry Op) → List (SharedEntry Op) → Config Op
   led c L H = record c { opened = on_log t (λ l. L) c.opened; shared = c.shared ++ H }
 
-  -- The steps meet their criteria exactly if what they ask is true, and then they lead to the log
-  -- with all pushed.
+  -- The steps meet their criteria exactly if their joint conditions are true, and then they lead to the log with all pushed.
   abbrev pub Goal : Config Op → List (LocalEntry Op) → List (LocalEntry Op) → List (LocalEntry Op) → Type 0
   Goal c P S M =
       (PushAsks O t c M → RunsFrom O c (pushes M))

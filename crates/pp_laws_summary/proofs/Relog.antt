@@ -39,7 +39,7 @@ pub filter_none : {A : Type 0} (p : A → Bool) (l : List A) → ((x : A) → In
 filter_none p [] h = refl
 filter_none {A} p (x ∷ l) h = ap (λ (b : Bool). cond b (x ∷ filter p l) (filter p l)) (h x (inl refl)) ∙ filter_none p l (λ y i. h y (inr i))
 
--- what passes p passes q
+-- If all that passes p passes q, filtering by q and then by p is filtering by p.
 pub filter_within : {A : Type 0} (p q : A → Bool) (l : List A) → ((x : A) → In x l → p x ≡ true → q x ≡ true) → filter p (filter q l) ≡ filter p l
 filter_within p q [] h = refl
 filter_within {A} p q (x ∷ l) h = by (q x) refl (p x) refl (filter_within p q l (λ y i. h y (inr i)))
@@ -92,7 +92,7 @@ on_log-fuse {Op} t f g xs =
     one w true e = ap (λ (z : Bool). cond z (relog f (relog g w)) (relog g w)) e
     one w false e = ap (λ (z : Bool). cond z (relog f w) w) e
 
--- a change of the log of t, which gives this log
+-- Two changes of the log of t that lead to the same log lead to the same transactions.
 pub on_log-is : {Op State : Type 0} (O : Object Op State) (c : Config Op) → Sound O c → (t : Name) (x : Tx Op) → In x c.opened → x.name ≡ t → (f : List (LocalEntry Op) → List (LocalEntry Op)) (K : List (LocalEntry Op)) →
     f x.local ≡ K → on_log t f c.opened ≡ on_log t (λ l. K) c.opened
 on_log-is {Op} O c s t x ix nx f K e = map_same (λ (w : Tx Op). cond (w.name =ⁿ t) (relog f w) w) (λ (w : Tx Op). cond (w.name =ⁿ t) (relog (λ l. K) w) w) c.opened

@@ -1,4 +1,4 @@
--- What was pulled of an object is what was committed first: what keeps it so.
+-- The pulled entries of an object are the ones committed first: why this stays so.
 use Rattle.std.specs.Prelude.{◌≡◌, ◌≢◌, ◌⊎◌, ◌≤◌, ℕ, zero, suc, ◌==◌, Bool, true, false, not, cond, ◌&&◌, List, [], ◌∷◌, ◌++◌, map, filter, take, drop, length}
 use Rattle.std.proofs.Common.{refl, sym, ap, subst, ◌∙◌, arith, append_assoc}
 use Rattle.std.proofs.lemmas.List.{append-nil, map-append, take-append-drop, take-append-le, length-map}
@@ -42,7 +42,7 @@ own_not_pulled Unpushed h = refl
 own_not_pulled Pushed h = refl
 own_not_pulled Pulled h = absurd (cc)
 
--- of two lists, the items that pass a test
+-- If a list is a reordering of another, its items that pass a test are one of the other's.
 pub reorders_filter : {Op State : Type 0} (O : Object Op State) (test : Item Op → Bool) (x y : List (Item Op)) → Reorders O x y → Reorders O (filter test x) (filter test y)
 reorders_filter O test x y r =
     record {
@@ -68,7 +68,7 @@ done_serial {Op} O place c s o =
     ∙ ap (λ (w : List (SharedEntry Op)). map shared_item w) (filter_twice (λ (g : SharedEntry Op). place g.op == o) (λ (g : SharedEntry Op). g.committed) c.shared) in
     subst (λ (w : List (Item Op)). Reorders O w (filter test (serial_items c.done))) x (reorders_filter O test (items G) (serial_items c.done) (subst (λ (w : List (Item Op)). Reorders O (items G) w) y r))
 
--- what comes before an entry of the first part of a list is in that part
+-- An entry before one of the first part of a list is in that part.
 before_part : {Op : Type 0} (T D : List (Item Op)) (p q : Item Op) → HasDistinctIds (T ++ D) → Before q p (T ++ D) → In p T → In q T
 before_part {Op} T D p q d i j = elim (before_cases q p T D i) [
   | inl k ↦ before_in_first q p T k
@@ -76,7 +76,7 @@ before_part {Op} T D p q d i j = elim (before_cases q p T D i) [
   | inr (inr k) ↦ k.0
 ]
 
--- what the snapshot says of the numbers
+-- The number of a snapshot is at most that of the committed entries of the object.
 pub few_seen : {Op State : Type 0} (O : Object Op State) (place : Op → ℕ) (o : ℕ) (D : List (CommittedTx Op)) (l : List (LocalEntry Op)) →
     IsSnapshot O place l o (take (seen_at place o l) (serial_at place o D)) → seen_at place o l ≤ length (serial_at place o D)
 few_seen {Op} O place o D l r =
@@ -190,7 +190,7 @@ module _ {Op State : Type 0} (O : Object Op State) (place : Op → ℕ) (c : Con
         let f = from_missing place o c.shared x.local m.0 m.1 in
         (m.0, f.0, f.1, f.2, f.3, m.2)
 
-    -- what is pulled is not missed
+    -- An entry that is pulled is not missed.
     apart : (p q : Item Op) → In p A → In q (map shared_item M) → p.id ≢ q.id
     apart p q i j n =
         let a = from_A p i in
@@ -307,7 +307,7 @@ module _ {Op State : Type 0} (O : Object Op State) (place : Op → ℕ) (c : Con
     at_o : (g : SharedEntry Op) → In g N → place g.op ≡ o
     at_o g i = (from_missing place o c.shared x.local g i).2
 
-    -- what is pulled of the object after a refresh
+    -- The pulled entries of the object after a refresh are those before it and the new ones.
     pub pulled_here : pulled_at place o (x.local ++ map as_pulled N) ≡ pulled_at place o x.local ++ map as_pulled N
     pulled_here = pulled-append o x.local (map as_pulled N) ∙ ap (λ (w : List (LocalEntry Op)). pulled_at place o x.local ++ w) (pulled_all o N at_o)
 

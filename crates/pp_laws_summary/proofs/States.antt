@@ -39,7 +39,7 @@ module _ {Op State : Type 0} (O : Object Op State) (place : Op → ℕ) (part : 
   done_is c o = sym (ops_done place o (only_committed c.shared) (λ g i. (from_filter (λ (w : SharedEntry Op). w.committed) g c.shared i).1))
       ∙ ap (λ (w : List (SharedEntry Op)). shared_ops w) (filter_within (λ (g : SharedEntry Op). g.committed && (place g.op == o)) (λ (g : SharedEntry Op). g.committed) c.shared (λ g i h. (and_parts g.committed (place g.op == o) h).0))
 
-  -- What is committed on an object is allowed, in the order of the shared log.
+  -- The committed operations on an object are allowed, in the order of the shared log.
   pub done_allowed : (c : Config Op) → Sound O c → (o : ℕ) → Allowed O (shared_ops (done_at place o c.shared))
   done_allowed c s o = subst (λ (w : List Op). Allowed O w) (done_is c o) ((part.parts (shared_ops (only_committed c.shared))).0 (committed_allowed O c s) o)
 

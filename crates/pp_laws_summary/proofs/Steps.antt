@@ -1,4 +1,4 @@
--- The steps of an operation, a refresh and a pushall, in any sound configuration: when they hold, and where they lead.
+-- The steps of an operation, a refresh and a pushall, in any sound configuration: when they hold, and the configuration after them.
 use Rattle.std.specs.Prelude.{◌≡◌, ◌≢◌, ℕ, ◌==◌, Bool, true, false, not, cond, ◌&&◌, List, [], ◌∷◌, ◌++◌, map, drop, Option, Some, None}
 use Rattle.std.proofs.Common.{refl, sym, ap, subst, ◌∙◌, append_assoc}
 use Rattle.std.proofs.lemmas.List.{append-nil, map-append}
@@ -35,12 +35,12 @@ use Rattle.pp_laws_summary.proofs.Pulls.{Pulling, Asks, pulls, pulled}
 use Rattle.pp_laws_summary.proofs.Pushes.{Pushing, PushAsks, led, pushed_all}
 use Rattle.pp_laws_summary.proofs.Pulled.{ops_more, own_more}
 
--- what comes after the APP
+-- The steps after the APP.
 abbrev pub tail : {Op : Type 0} → Option ℕ → Name → ℕ → List (Step Op)
 tail None t id = Push t id ∷ []
 tail (Some m) t id = []
 
--- what is missed at an object
+-- An entry missed at an object is an entry of the shared log, committed, on the object, and not in the local log.
 pub from_missing : {Op : Type 0} (place : Op → ℕ) (o : ℕ) (G : List (SharedEntry Op)) (l : List (LocalEntry Op)) (g : SharedEntry Op) → In g (missing_at place o G l) →
     In g G × (g.committed ≡ true) × (place g.op ≡ o) × (stands_in l g.id ≡ false)
 from_missing place o G l g i =
@@ -102,7 +102,7 @@ module _ {Op State : Type 0} (O : Object Op State) (place : Op → ℕ) (part : 
   pub note_good : (o : ℕ) → RunsFrom O c (Note t ∷ refresh place t o c.shared x.local) → LocalRefresh O place c o x
   note_good o r = asks_good o ((pulled O t (missing_at place o c.shared x.local) c x (pulling o)).1 r.1).0
 
-  -- where the steps of a refresh lead
+  -- The configuration after the steps of a refresh.
   pub note_leads : (o : ℕ) → RunsFrom O c (Note t ∷ refresh place t o c.shared x.local) →
       after_from c (Note t ∷ refresh place t o c.shared x.local) ≡ relogged c t (x.local ++ map as_pulled (missing_at place o c.shared x.local))
   note_leads o r = ((pulled O t (missing_at place o c.shared x.local) c x (pulling o)).1 r.1).1
@@ -255,7 +255,7 @@ module _ {Op State : Type 0} (O : Object Op State) (place : Op → ℕ) (part : 
             ∙ ap (λ (w : List (Tx Op)). record c { ids = id ∷ c.ids; opened = w; shared = c.shared ++ record { id = id; owner = t; committed = false; op = op } ∷ [] })
             (on_log-fuse t (set_mark id Pushed) (λ l. K ++ as_applied t id op ∷ []) c.opened ∙ ap (λ (w : List (LocalEntry Op)). on_log t (λ l. w) c.opened) marked)
 
-    -- where the operation leads
+    -- The configuration after the operation.
     abbrev pub over_operated : Config Op
     over_operated = record c {
       ids = id ∷ c.ids;
@@ -327,11 +327,11 @@ module _ {Op State : Type 0} (O : Object Op State) (place : Op → ℕ) (part : 
       two true i = absurd i
       two false i = i
 
-  -- What an operation pulls first is on its object.
+  -- The entries that an operation pulls first are on its object.
   pub at_before : (mode : Option ℕ) (o : ℕ) (g : SharedEntry Op) → In g (pulled_before place mode o c.shared x.local) → place g.op ≡ o
   at_before mode o g i = (from_missing place o c.shared x.local g (in_missing mode o g i)).2
 
-  -- What an operation pulls first may be pulled.
+  -- The entries that an operation pulls first may be pulled.
   pub op_pulling : (mode : Option ℕ) (o : ℕ) → Pulling O t c x (pulled_before place mode o c.shared x.local)
   op_pulling None o = pulling o
   op_pulling (Some m) o = two (touches place o (drop m x.local))
@@ -342,7 +342,7 @@ module _ {Op State : Type 0} (O : Object Op State) (place : Op → ℕ) (part : 
 
   -- operation
   module _ (mode : Option ℕ) (id : ℕ) (op : Op) where
-    -- what the operation pulls first
+    -- the entries that the operation pulls first
     abbrev pub M : List (SharedEntry Op)
     M = pulled_before place mode (place op) c.shared x.local
 
@@ -358,7 +358,7 @@ module _ {Op State : Type 0} (O : Object Op State) (place : Op → ℕ) (part : 
     pub op_good : RunsFrom O c steps → LocalOp O place mode c id op x
     op_good = over_good mode id op M (op_pulling mode (place op)) (at_before mode (place op))
 
-    -- where the steps of an operation lead
+    -- The configuration after the steps of an operation.
     pub op_leads : RunsFrom O c steps → after_from c steps ≡ record c {
       ids = id ∷ c.ids;
       opened = on_log t (λ l. (x.local ++ map as_pulled M) ++ new_entry mode t id op ∷ []) c.opened;
@@ -403,6 +403,6 @@ module _ {Op State : Type 0} (O : Object Op State) (place : Op → ℕ) (part : 
       let a = ((pushed_all O t x.local [] c x pushing).1 r).0 in
       record { passes = λ e u i j n k p. a.passes e u i j n (λ z. k (z ∙ sym nx)); allowed = a.allowed }
 
-  -- where the pushes lead
+  -- The configuration after the pushes.
   pub pushes_lead : RunsFrom O c (pushall t x.local) → after_from c (pushall t x.local) ≡ led O t c (map as_pushed x.local) (posted t (unpushed x.local))
   pushes_lead r = ((pushed_all O t x.local [] c x pushing).1 r).1

@@ -226,7 +226,7 @@ module _ {Op State : Type 0} (O : Object Op State) (place : Op → ℕ) (part : 
     still : SameElsewhere t f f
     still u n = refl
 
-    -- what a section holds stays if entries are added
+    -- The log that a section holds stays the same if entries are added.
     held_more : (K : List (LocalEntry Op)) → held_of place (f.section x.name) (x.local ++ K) ≡ held_of place (f.section x.name) x.local
     held_more K = by (f.section x.name) refl
       where
@@ -340,7 +340,7 @@ module _ {Op State : Type 0} (O : Object Op State) (place : Op → ℕ) (part : 
         ∙ ap (λ (w : List ℕ). record { names = c.names; ids = c.ids; opened = at_open t (taken_back None) B.opened; shared = without_ids w c.shared; done = c.done; kinds = f.kinds }) (sym (own_pushed_ids x.local))
         ∙ ap (λ (w : Option (OpenSummary Op)). record { names = c.names; ids = c.ids; opened = at_open t (taken_back None) B.opened; shared = without_ids (pushed_ids (own_of w)) c.shared; done = c.done; kinds = f.kinds }) (sym (found t x lookup))
 
-    -- What a section returns to is the log up to its mark.
+    -- The log to which a section returns is the log up to its mark.
     pub held_parts : (o : Option ℕ) → (take (own_held (held_of place o x.local)) (own x.local) ≡ own (take (mark_of o) x.local)) × ((p : ℕ) → seen_at place p (take (mark_of o) x.local) ≡ seen_held (held_of place o x.local) p)
         × (pushed_ids (drop (mark_of o) x.local) ≡ pushed_ids (drop (own_held (held_of place o x.local)) (own x.local)))
     held_parts None = (refl, (λ p. refl), sym (own_pushed_ids x.local))

@@ -1,4 +1,4 @@
--- What a summary says of one transaction is what its log says.
+-- The facts in a summary about one transaction are those of its log.
 use Rattle.std.specs.Prelude.{◌≡◌, ◌+◌, ℕ, zero, ◌==◌, Bool, true, false, not, cond, ◌&&◌, ◌||◌, List, [], ◌∷◌, ◌++◌, map, take, drop, length, Option, Some, None}
 use Rattle.std.specs.List.{list_any}
 use Rattle.std.proofs.Common.{refl, sym, ap, subst, ◌∙◌, arith, append_assoc, take-append-drop, length-append}
@@ -82,7 +82,7 @@ same_sum a d = elim (eqb_tells (a + d) a) [
   ]
 ]
 
--- what is touched after a mark
+-- An object is touched after a mark exactly if the summary says so.
 pub touched_is : {Op : Type 0} (place : Op → ℕ) (o m : ℕ) (l : List (LocalEntry Op)) →
     touches place o (drop m l) ≡ (not (seen_at place o l == seen_at place o (take m l)) || list_any (λ e. place e.op == o) (drop (length (own (take m l))) (own l)))
 touched_is {Op} place o m l =
@@ -90,7 +90,7 @@ touched_is {Op} place o m l =
     ∙ ap (λ (z : Bool). z || any_at place o (own_items (drop m l))) (ap not (sym (same_sum (seen_at place o (take m l)) (seen_at place o (drop m l))) ∙ ap (λ (n : ℕ). n == seen_at place o (take m l)) (sym (seen_cut place o m l))))
     ∙ ap (λ (z : Bool). not (seen_at place o l == seen_at place o (take m l)) || z) (sym (any_own place o (own (drop m l))) ∙ ap (λ (w : List (LocalEntry Op)). list_any (λ (e : LocalEntry Op). place e.op == o) w) (sym (own_drop m l)))
 
--- what is touched at all
+-- An object is touched exactly if its snapshot is not empty or an own operation is on it.
 pub touched_all : {Op : Type 0} (place : Op → ℕ) (o : ℕ) (l : List (LocalEntry Op)) → touches place o l ≡ (not (seen_at place o l == zero) || list_any (λ e. place e.op == o) (own l))
 touched_all {Op} place o l = sym (touches_is place o l) ∙ ap (λ (z : Bool). not (seen_at place o l == zero) || z) (sym (any_own place o (own l)))
 
@@ -118,7 +118,7 @@ module _ {Op State : Type 0} (O : Object Op State) (place : Op → ℕ) (part : 
   pub nx : x.name ≡ t
   nx = (found_tx t c.opened x lookup).1
 
-  -- what it misses
+  -- The entries that a transaction misses are those that the summary names.
   pub missing_is : (o : ℕ) → missing_at place o c.shared x.local ≡ summary_missing place o B y
   missing_is o = filter_same (λ (g : SharedEntry Op). (g.committed && (place g.op == o)) && not (stands_in x.local g.id)) (λ (g : SharedEntry Op). (g.committed && (place g.op == o)) && not (has_id g.id (seen_ids place o c.done y))) c.shared
       (λ g i. by g i (g.committed && (place g.op == o)) refl)
@@ -134,7 +134,7 @@ module _ {Op State : Type 0} (O : Object Op State) (place : Op → ℕ) (part : 
 
   -- the same is allowed after both views
   module _ (o : ℕ) where
-    -- What is allowed after the local log is allowed after the view of the summary.
+    -- Operations that are allowed after the local log are allowed after the view of the summary.
     pub log_to : (k : List Op) → Allowed O (log_at place o x.local ++ k) → Allowed O (summary_view place o c.done y ++ k)
     log_to k a = subst (λ (w : List Op). Allowed O w) (sym (append_assoc (ops (take (seen_at place o x.local) (serial_at place o c.done))) (ops_at place o (local_ops (own x.local))) k)) ((b.snapshots x ix o).leads k a)
 
@@ -145,7 +145,7 @@ module _ {Op State : Type 0} (O : Object Op State) (place : Op → ℕ) (part : 
     pub same_state : state O (log_at place o x.local) ≡ state O (summary_view place o c.done y)
     same_state = tells (log_at place o x.local) (summary_view place o c.done y) log_allowed log_to
 
-    -- What is allowed after the view of the summary is allowed after the local log.
+    -- Operations that are allowed after the view of the summary are allowed after the local log.
     pub log_from : (k : List Op) → Allowed O (summary_view place o c.done y ++ k) → Allowed O (log_at place o x.local ++ k)
     log_from k a = allowed_join O O.start (log_at place o x.local) k log_allowed
         (subst (λ (z : State). AllowedFrom O z k) (sym same_state) (allowed_back O O.start (summary_view place o c.done y) k a))
@@ -166,7 +166,7 @@ module _ {Op State : Type 0} (O : Object Op State) (place : Op → ℕ) (part : 
       by false = tt
   match_of Dependent h o = absurd h
 
-  -- what is pulled first
+  -- The entries that are pulled first are those that the summary names.
   pub first_is : (o : ℕ) (m : Option ℕ) (h : Option Held) → Match place o x.local y m h → pulled_before place m o c.shared x.local ≡ summary_pulled place h o B y
   first_is o None None e = missing_is o
   first_is o None (Some h) e = absurd e

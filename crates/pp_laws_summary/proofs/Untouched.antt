@@ -1,4 +1,4 @@
--- What is pulled of an object on which a transaction has no own entry meets each criterion.
+-- Pulled entries of an object without own entries meet each criterion.
 use Rattle.std.specs.Prelude.{◌≡◌, ◌≢◌, ◌⊎◌, ℕ, Bool, true, false, not, List, [], ◌∷◌, ◌++◌, drop, filter, map, take}
 use Rattle.std.proofs.Common.{refl, sym, ap, subst, ◌∙◌, append_assoc}
 use Rattle.std.proofs.lemmas.List.{append-nil, map-append, take-append-drop}

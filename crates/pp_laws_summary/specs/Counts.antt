@@ -71,7 +71,7 @@ seen_items place D seen =
 abbrev pub back_count : {Op : Type 0} → (Op → ℕ) → Summary Op → OpenSummary Op → ℕ
 back_count place B x = own_count x.own + length (seen_items place B.done x.seen)
 
--- what its section added is taken back
+-- the number of steps that take back what the transaction's section added
 abbrev pub section_count : {Op : Type 0} → (Op → ℕ) → Summary Op → OpenSummary Op → ℕ
 section_count place B x =
     own_count (drop (own_held x.held) x.own)

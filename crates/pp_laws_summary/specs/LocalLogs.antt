@@ -141,7 +141,7 @@ pub record LocalPushes {Op State : Type 0} (O : Object Op State) (place : Op →
   -- PUSH 5
   pub allowed : Allowed O (shared_ops c.shared ++ local_ops (unpushed x.local))
 
--- What a commit asks of the pushes. If operations are pushed at once, all of them are pushed.
+-- The criteria of the pushes of a commit. If operations are pushed at once, all of them are pushed.
 abbrev pub LocalCommitPushes : {Op State : Type 0} → Style → Object Op State → (Op → ℕ) →
     Config Op → Tx Op → Type 0
 LocalCommitPushes Rules O place c x = ⊥
@@ -179,8 +179,8 @@ LocalGood style O place f c (records.DropSource t source) = ⊥
 abbrev pub serial_at : {Op : Type 0} → (Op → ℕ) → ℕ → List (CommittedTx Op) → List (Item Op)
 serial_at place o D = filter (λ p. place p.op == o) (serial_items D)
 
--- What L pulled of the object o are these items, in any order, and what is allowed after L at o is
--- allowed after them and then L's own operations.
+-- L pulled these items of the object o, in any order. What is allowed after L at o is allowed after
+-- them and then L's own operations.
 pub record IsSnapshot {Op State : Type 0} (O : Object Op State) (place : Op → ℕ)
     (l : List (LocalEntry Op)) (o : ℕ) (items : List (Item Op)) : Type 0 where
   pub distinct_x : HasDistinctIds (map item (pulled_at place o l))

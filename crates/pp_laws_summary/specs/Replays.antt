@@ -1,5 +1,5 @@
--- Meaning: new entries of an object that swap with the own ones. The own operations are asked again,
--- in the state of the serial run, and the new entries not at all.
+-- Meaning: new entries of an object that swap with the own ones. The own operations are tested
+-- again, in the state of the serial run, and the new entries not at all.
 use Rattle.std.specs.Prelude.{◌≡◌, ◌↔◌, ℕ, List, ◌++◌}
 use Rattle.pp_model.specs.Config.{LocalEntry, SharedEntry, Tx, local_ops, own, shared_ops}
 use Rattle.pp_model.specs.Lists.{In}
@@ -20,7 +20,7 @@ abbrev pub serial_state : {Op State : Type 0} → Object Op State → (Op → �
     Standing Front Op → State
 serial_state O place o p = state O (ops (serial_at place o p.config.done))
 
--- what the transaction misses of the object
+-- the entries of the object that the transaction misses
 abbrev pub missing_now : {Op : Type 0} → (Op → ℕ) → ℕ → Standing Front Op → Tx Op →
     List (SharedEntry Op)
 missing_now place o p x =

@@ -27,8 +27,8 @@ use Rattle.pp_laws_summary.specs.LocalLogs.{pushed_ids, serial_at, unpushed, wit
 use Rattle.pp_laws_summary.specs.Places.{ops_at}
 use Rattle.pp_laws_summary.specs.Views.{seen_at}
 
--- What a transaction returns to if its section is aborted: its first own entries, as many as `own`
--- says, and of each object the snapshot that it had then.
+-- The log to which a transaction returns if its section is aborted: its first `own` own entries,
+-- and the snapshot of each object that it had then.
 pub record Held : Type 0 where
   pub own : ℕ
   pub seen : ℕ → ℕ
@@ -52,7 +52,7 @@ pub record Summary (Op : Type 0) : Type 0 where
   pub done : List (CommittedTx Op)
   pub kinds : List Kind
 
--- what a section with this mark returns to
+-- the log to which a section with this mark returns
 abbrev pub held_of : {Op : Type 0} → (Op → ℕ) → Option ℕ → List (LocalEntry Op) → Option Held
 held_of place None l = None
 held_of place (Some m) l =
@@ -100,7 +100,8 @@ abbrev pub touched_since : {Op : Type 0} → (Op → ℕ) → ℕ → Held → O
 touched_since place o h x =
     not (x.seen o == h.seen o) || list_any (λ e. place e.op == o) (drop h.own x.own)
 
--- What the transaction has of an object: its snapshot in commit order, and then its own operations.
+-- The operations that a transaction has of an object: its snapshot in commit order, and then its
+-- own operations.
 abbrev pub summary_view : {Op : Type 0} → (Op → ℕ) → ℕ → List (CommittedTx Op) → OpenSummary Op →
     List Op
 summary_view place o D x =
@@ -174,7 +175,7 @@ pub record SummaryPushes {Op State : Type 0} (O : Object Op State) (place : Op �
   -- PUSH 5
   pub allowed : Allowed O (shared_ops B.shared ++ local_ops (unpushed x.own))
 
--- What a commit asks of the pushes.
+-- The criteria of the pushes of a commit.
 abbrev pub SummaryCommitPushes : {Op State : Type 0} → Style → Object Op State → (Op → ℕ) →
     Summary Op → OpenSummary Op → Type 0
 SummaryCommitPushes Rules O place B x = ⊥
@@ -285,7 +286,7 @@ taken_back h x = record x { own = take (own_held h) x.own; seen = seen_held h; h
 abbrev pub ended : {Op : Type 0} → OpenSummary Op → OpenSummary Op
 ended x = record x { own = map as_pushed x.own; held = None }
 
--- what a section that begins now returns to; one that is open stays as it is
+-- the log to which a section that begins now returns; an open one stays as it is
 abbrev pub held_from : Option Held → ℕ → (ℕ → ℕ) → Option Held
 held_from None n seen = Some (record { own = n; seen = seen })
 held_from (Some h) n seen = Some h

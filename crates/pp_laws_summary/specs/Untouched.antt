@@ -43,7 +43,7 @@ pub record UntouchedIsSafe {Op State : Type 0} (O : Object Op State) (place : Op
   pub refresh : (p : Standing Front Op) → Summable O place p.front p.config → (x : Tx Op) →
       In x p.config.opened → (o : ℕ) → HasNoneAt place o x →
       SummaryRefresh O place (summary_of place p) o (open_summary place p.front x)
-  -- An operation that takes a new snapshot is asked in the state of the serial run alone.
+  -- An operation that takes a new snapshot is tested in the state of the serial run alone.
   pub operation : (p : Standing Front Op) → Summable O place p.front p.config → (x : Tx Op) →
       In x p.config.opened → (op : Op) → HasNoneAt place (place op) x →
       Allowed O

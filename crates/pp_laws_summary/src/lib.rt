@@ -74,8 +74,9 @@ pub fn states_tell_what_follows<S: Spec>()
     ensures { (shape : S.Shape) → StatesLaw (rules_of S.object shape) }
 {}
 
-/// What is pulled of an object on which a transaction has no own entry meets each criterion. It leads
-/// to the state of the serial run. So the first touch of an object asks nothing of its history.
+/// Pulled entries of an object on which a transaction has no own entry meet each criterion. They
+/// lead to the state of the serial run. So the first touch of an object needs nothing of its
+/// history.
 pub fn untouched_objects_are_safe<S: Spec>()
     ensures { (shape : S.Shape) → UntouchedLaw (rules_of S.object shape) }
 {}

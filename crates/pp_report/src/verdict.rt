@@ -10,7 +10,7 @@ use pp_objects::Op;
 use pp_text::write_number;
 use std::alloc::Global;
 
-/// Adds where the failed step is.
+/// Adds the place of the failed step.
 fn write_place(text: &mut Text, step: u64, line: u32) -> Result<(), OutOfMemory>
     ensures { OnOk result (text.new ≡ text.old ++ rejected_place step line) }
 {

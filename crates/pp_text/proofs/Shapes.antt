@@ -1,4 +1,4 @@
--- What follows if an object of the catalog has a state of its kind.
+-- Facts for an object of the catalog that has a state of its kind.
 use Rattle.std.proofs.Common.{◌≡◌, ◌<◌, ℕ, zero, suc, List, [], ◌∷◌, length, map, slice_get, Some}
 use Rattle.std.proofs.Common.{arith}
 use Rattle.pp_core.specs.Catalogs.{Objects}

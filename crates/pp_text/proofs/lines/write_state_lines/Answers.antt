@@ -3,7 +3,7 @@ use Rattle.std.specs.List.{flat_map, range_with_len}
 use Rattle.pp_text.specs.Lines.{state_line}
 use Rattle.pp_text.proofs.lines.write_state_lines.Goals as goal
 
--- what is written at a place, and then what is still to write, is what was to write before
+-- The text at one position, followed by the text after it, is the text from that position on.
 at_place : {A : Type 0} (f : ℕ → List A) (before after : List A) (place count : ℕ) → place < count → after ≡ before ++ f place
     → after ++ flat_map f (range_with_len (place + 1) (count - (place + 1))) ≡ before ++ flat_map f (range_with_len place (count - place))
 at_place f before after place count below written =
