@@ -151,7 +151,7 @@ short_within {Op} past (s ∷ ss) p n =
 pub peak_short : {Op : Type 0} (ss : List (Step Op)) (p : Peak Op) → In p (peaks ss) → length p.ops ≤ length ss
 peak_short ss p n = let short = short_within [] ss p n in omega (arith, short)
 
--- The peak is one of the peaks.
+-- The peak right after an APP step is among the peaks, if the transaction does not go on.
 stands : {Op : Type 0} (t : Name) (id : ℕ) (op : Op) (before xs rest : List (Step Op)) → goes_on t rest ≡ false
     → (front : List (Peak Op)) × (peaks_behind before (xs ++ App t id op ∷ rest)
     ≡ front ++ peak_behind t ((before ++ xs) ++ App t id op ∷ []) ∷ peaks_behind ((before ++ xs) ++ App t id op ∷ []) rest)

@@ -141,7 +141,7 @@ length-pairs (a ∷ b ∷ c ∷ []) h = (omega arith, omega arith)
 length-pairs (a ∷ b ∷ c ∷ d ∷ x) h = let r = length-pairs (c ∷ d ∷ x) (omega arith) in
     (omega arith, omega (arith, r.1))
 
--- A fact about a row is a fact about the row one level up.
+-- If a count is positive, so is the count of its pair one level up, and their sum stays below 2^32.
 pub upward : (x y : List ℕ) (i : ℕ) → y ≡ pairs x → sum x < 4294967296 → i < length x →
     0 < get_or x i 0 →
     (sum y < 4294967296) × (i / 2 < length y) × (0 < get_or y (i / 2) 0)

@@ -21,7 +21,7 @@ use Rattle.pp_format_read.proofs.Objects.{item_at}
 use Rattle.pp_format_read.specs.Bodies.{forms, form_of, as_seq, as_alt, as_star, body_of, bodies_of}
 use Rattle.pp_format_read.specs.Bodies.{bodies_in, seq_among, alt_among, star_among}
 
--- The values that the members of an object are read as.
+-- A function that is mapped over a lookup is mapped over its result.
 at_key : {A B : Type 0} (f : A → B) (o : Ordering) (x : A) (y : Option B) (z : Option A) → y ≡ option_map f z
     → match_ordering o y (Some (f x)) y ≡ option_map f (match_ordering o z (Some x) z)
 at_key f Less x y z e = e

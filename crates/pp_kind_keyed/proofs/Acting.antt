@@ -10,7 +10,7 @@ use Rattle.pp_kind_keyed.proofs.Rule.{refused_follows, refused_turned}
 
 module _ {State Op Undo Cell : Type 0} (o : Object (Unit {0}) State Op Undo)
     (k : Keys State Op Cell) (acts : IsKeyed o k) where
-  -- The cells that an operation leaves at its key and at the others.
+  -- The cell at its key after an operation is the one that the operation leaves.
   pub left_here : (s : State) (a : Op) (q : ℤ) → q ≡ k.key a → IsLegal o s a
       → k.cell (o.next s a) q ≡ k.left a (k.cell s q)
   left_here s a q e h = acts.next_cell s a q h

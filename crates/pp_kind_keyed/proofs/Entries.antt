@@ -104,7 +104,7 @@ is_asked (Some m) n e = ap Some (same_key m n (alike (int_eq m n) e))
     alike true e = refl
     alike false e = cc
 
--- Entries with ascending keys are the entries of the map that they make.
+-- A key less than all keys of some entries is below all of them.
 below : {X : Type 0} (k : ℤ) (es : List (ℤ × X))
     → AllByRecursion (λ (q : ℤ). int_cmp k q ≡ Less) (keys_of es) → T (below_all int_cmp k es)
 below k [] h = tt

@@ -9,7 +9,7 @@ use Rattle.pp_kind_keyed.proofs.Acting.{left_here, left_elsewhere}
 
 module _ {State Op Undo Cell : Type 0} (o : Object (Unit {0}) State Op Undo)
     (k : Keys State Op Cell) (acts : IsKeyed o k) where
-  -- The cells of two states that differ at a key: there, and at the other keys.
+  -- The other state has the cell of a gap at the key of the gap.
   there : (s t : State) (q p : ℤ) (c : Cell) → DiffersAt k q c s t → p ≡ q → k.cell t p ≡ c
   there s t q p c d e = d p ∙ ap (λ (b : Bool). cond b c (k.cell s p)) (key_is p q e)
 
@@ -73,7 +73,7 @@ module _ {State Op Undo Cell : Type 0} (o : Object (Unit {0}) State Op Undo)
           ∙ ap (λ (x : Cell). cond (int_eq p (k.key b)) (k.left b x) x) (elsewhere s t q p c d f)
           ∙ sym (acts.next_cell s b p h)
 
-  -- An operation at the key is legal in the other state, if that has there the cell that it finds.
+  -- An operation at the key of a gap is legal in the other state, if it finds the cell there.
   legal_there : (q : ℤ) (c : Cell) (b : Op) (s t : State) → k.key b ≡ q → k.Finds b c
       → DiffersAt k q c s t → IsLegal o t b
   legal_there q c b s t e f d =

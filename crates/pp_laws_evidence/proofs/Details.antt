@@ -66,7 +66,7 @@ none_other {Op} t (e ∷ Q) = ap (λ (b : Bool). cond (true && not b) (as_shared
 one_more : (n : ℕ) → 1 + n ≡ suc n
 one_more n = omega arith
 
--- All entries are before an entry at the end whose id is new.
+-- The entries before one at the end with a new id are all others.
 before_new : {Op : Type 0} (K : List (LocalEntry Op)) (e : LocalEntry Op) → ((a : LocalEntry Op) → In a K → (a.id == e.id) ≡ false) → entries_before e.id (K ++ e ∷ []) ≡ K
 before_new {Op} [] e h = ap (λ (b : Bool). take (cond (not b) (1 + 0) 0) (e ∷ [])) (eq-eqb e.id e.id refl)
 before_new {Op} (a ∷ K) e h =

@@ -36,7 +36,7 @@ mode_at place o Hardware ks x p = by (is_memory (slice_get ks p))
     by false = refl
 mode_at place o Dependent ks x p = refl
 
--- The objects that are touched, in the part on the object.
+-- Whether the object was touched since a section began is the same in the part on the object.
 pub touched_at : {Op : Type 0} (place : Op → ℕ) (o : ℕ) (h : Held) (x : OpenSummary Op) →
     touched_since place o (record { own = length (own_at place o (take h.own x.own)); seen = seen_only o h.seen }) (open_at place o x) ≡ touched_since place o h x
 touched_at {Op} place o h x =

@@ -95,7 +95,7 @@ module _ {Op : Type 0} (place : Op → ℕ) (o : ℕ) (js : List ℕ) (B : Summa
   open_to : (P Q : OpenSummary Op → Type 0) → ((x : OpenSummary Op) → P x → Q (open_at place o x)) → OfOpenSummary B t P → OfOpenSummary (summary_at place o js B) t Q
   open_to P Q h k = (open_at place o k.0, named_at place o t B.opened ∙ ap (λ (w : Option (OpenSummary Op)). found_at place o w) k.1, h k.0 k.2)
 
-  -- A fact about an open transaction's part on the object.
+  -- A property of t in the part of a summary on the object is one of the part of t's open transaction.
   open_from : (Q : OpenSummary Op → Type 0) (x : OpenSummary Op) → open_named t B.opened ≡ Some x → OfOpenSummary (summary_at place o js B) t Q → Q (open_at place o x)
   open_from Q x e k = subst Q (same_Some k.0 (open_at place o x) (sym k.1 ∙ named_at place o t B.opened ∙ ap (λ (w : Option (OpenSummary Op)). found_at place o w) e)) k.2
 

@@ -129,7 +129,7 @@ module _ {Op : Type 0} (place : Op → ℕ) (o : ℕ) where
         by g i true e = ap not (same_bool (has_id g.id (pushed_ids (own_at place o l))) (has_id g.id (pushed_ids l)) (fewer g.id) (all_there g i (eqb-true (place g.op) o e)))
         by g i false e = refl
 
--- The entries that an operation adds to the shared log.
+-- The entries that an operation adds on its object are the same in the part.
 adds_at : {Op : Type 0} (place : Op → ℕ) (style : Style) (ks : List Kind) (t : Name) (id : ℕ) (op : Op) (w : Option (OpenSummary Op)) →
     shared_by place style ks t id op (found_at place (place op) w) ≡ shared_at place (place op) (shared_by place style ks t id op w)
 adds_at place style ks t id op None = refl

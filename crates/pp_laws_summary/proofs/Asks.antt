@@ -41,7 +41,7 @@ there_two {A} {B} w F G x g e d qs k n =
     subst (λ (z : Option A). FirstFalse qs n ↔ FirstFalse (there z (λ y. there (F y) (λ h. G y h))) n) (sym e)
     (subst (λ (z : Option B). FirstFalse qs n ↔ FirstFalse (Unit {0} ∷ there z (λ h. G x h)) n) (sym d) (alike qs (Unit {0} ∷ Unit {0} ∷ G x g) k n))
 
--- If a value is not there, the first condition is false.
+-- The conditions on a value that is not there are one false condition.
 pub there_none : {A : Type 0} (w : Option A) (F : A → List (Type 0)) → w ≡ None → (n : ℕ) → FirstFalse (⊥ ∷ []) n ↔ FirstFalse (there w F) n
 there_none {A} w F e n = subst (λ (z : Option A). FirstFalse (⊥ ∷ []) n ↔ FirstFalse (there z F) n) (sym e) ((λ h. h), (λ h. h))
 

@@ -222,7 +222,7 @@ module _ {Op State : Type 0} (O : Object Op State) (place : Op → ℕ) (part : 
         let d = all_back in
         omega arith
 
-    -- The entries that a section added are taken back.
+    -- The log up to the mark of a section has snapshots.
     marked : (o : Option ℕ) → f.section x.name ≡ o → HasSnapshots O place c.done (take (mark_of o) x.local)
     marked None e = snaps.no_snapshots O place c.done
     marked (Some m) e = (b.sections x ix m e).1

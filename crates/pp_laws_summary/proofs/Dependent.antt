@@ -108,7 +108,7 @@ module _ {Op State : Type 0} (O : Object Op State) (place : Op → ℕ) (part : 
   nx : x.name ≡ t
   nx = (found_tx t c.opened x lookup).1
 
-  -- An entry that is followed may be pulled.
+  -- An entry that is followed is in the shared log, on the object, and not in the local log.
   from_followed : (sources : List Name) (o : ℕ) (g : SharedEntry Op) → In g (followed_at place o sources c.shared x.local) → In g c.shared × (place g.op ≡ o) × (stands_in x.local g.id ≡ false)
   from_followed sources o g i =
       let f = from_filter (λ (g : SharedEntry Op). (is_followed sources g && (place g.op == o)) && not (stands_in x.local g.id)) g c.shared i in

@@ -43,7 +43,7 @@ module _ {Op State : Type 0} (O : Object Op State) (place : Op → ℕ) (part : 
       by p (inr n) = subst (λ (w : List Op). Allowed O (ops_at place p l ++ w)) (sym (at_none place p m (λ a i e. n (sym (at a i) ∙ e))))
           (subst (λ (w : List Op). Allowed O w) (sym (append-nil (ops_at place p l))) ((part.parts l).0 h p))
 
-  -- An operation list at a place that is allowed after a list is allowed after the list's operations at its place.
+  -- Operations at a place that are allowed after a list are allowed after the list's operations at that place.
   pub part_from_whole : (o : ℕ) (l m : List Op) → AllAt place o m → Allowed O (l ++ m) → Allowed O (ops_at place o l ++ m)
   part_from_whole o l m at h = subst (λ (w : List Op). Allowed O (ops_at place o l ++ w)) (at_all place o m at)
       (subst (λ (w : List Op). Allowed O w) (at-append place o l m) ((part.parts (l ++ m)).0 h o))

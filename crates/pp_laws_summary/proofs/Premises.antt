@@ -256,7 +256,7 @@ module _ (k : Call) where
   pulled_or true = one_item true
   pulled_or false = one_item false
 
-  -- The operations that may follow the log may follow the snapshot and then the own operation.
+  -- The operations of the snapshot. What may follow the log may follow them and then the own operation.
   abbrev snapshot_ops : Bool → List Three
   snapshot_ops z = ops (take (length (cond z (as_pulled the_second ∷ []) [])) (cond z (second_item ∷ []) []))
 

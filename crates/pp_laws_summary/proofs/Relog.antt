@@ -92,7 +92,7 @@ on_log-fuse {Op} t f g xs =
     one w true e = ap (λ (z : Bool). cond z (relog f (relog g w)) (relog g w)) e
     one w false e = ap (λ (z : Bool). cond z (relog f w) w) e
 
--- Two changes of the log of t that lead to the same log lead to the same transactions.
+-- A change of the log of t that leads to K is the change that puts K there.
 pub on_log-is : {Op State : Type 0} (O : Object Op State) (c : Config Op) → Sound O c → (t : Name) (x : Tx Op) → In x c.opened → x.name ≡ t → (f : List (LocalEntry Op) → List (LocalEntry Op)) (K : List (LocalEntry Op)) →
     f x.local ≡ K → on_log t f c.opened ≡ on_log t (λ l. K) c.opened
 on_log-is {Op} O c s t x ix nx f K e = map_same (λ (w : Tx Op). cond (w.name =ⁿ t) (relog f w) w) (λ (w : Tx Op). cond (w.name =ⁿ t) (relog (λ l. K) w) w) c.opened

@@ -42,7 +42,7 @@ own_not_pulled Unpushed h = refl
 own_not_pulled Pushed h = refl
 own_not_pulled Pulled h = absurd (cc)
 
--- If a list is a reordering of another, its items that pass a test are one of the other's.
+-- If y is a reordering of x, the items of y that pass a test are a reordering of those of x.
 pub reorders_filter : {Op State : Type 0} (O : Object Op State) (test : Item Op → Bool) (x y : List (Item Op)) → Reorders O x y → Reorders O (filter test x) (filter test y)
 reorders_filter O test x y r =
     record {

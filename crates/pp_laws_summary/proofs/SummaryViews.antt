@@ -82,7 +82,7 @@ same_sum a d = elim (eqb_tells (a + d) a) [
   ]
 ]
 
--- An object is touched after a mark exactly if the summary says so.
+-- Whether an object is touched after a mark, by the snapshots and the own operations.
 pub touched_is : {Op : Type 0} (place : Op → ℕ) (o m : ℕ) (l : List (LocalEntry Op)) →
     touches place o (drop m l) ≡ (not (seen_at place o l == seen_at place o (take m l)) || list_any (λ e. place e.op == o) (drop (length (own (take m l))) (own l)))
 touched_is {Op} place o m l =

@@ -116,7 +116,7 @@ module _ {Op : Type 0} (place : Op → ℕ) (p : ℕ) where
   pub stand_behind : (x : List (Item Op)) (k : ℕ) (e : Item Op) (m from : ℕ) → IsStand place p x k e m → from ≤ m → ahead place p x from ≤ k
   stand_behind x k e m from r h = let less = ahead_rises x from m h in let count = r.count in omega arith
 
--- A fact about an option is a fact about its value, if it has one.
+-- An option meets a property if its value, if there is one, does.
 pub if_some : {A : Type 0} (o : Option A) (P : A → Type 0) → ((a : A) → o ≡ Some a → P a) → IfSome o P
 if_some None P h = tt
 if_some (Some a) P h = h a refl

@@ -101,7 +101,7 @@ cut p xs zero h = sym (nowhere p xs (λ x i. let r = in_at xs x i in h r.0 x (om
 cut p [] (suc n) h = refl
 cut p (x ∷ xs) (suc n) h = cut_head p x (take n xs) xs (p x) refl (cut p xs n (λ j y le at. h (suc j) y (omega arith) at))
 
--- The first position before the i-th, if the test is false for the first n.
+-- A search from n on finds the first position before i, if the test is false for the first n.
 pub before_from : {X : Type 0} (p : X → Bool) (xs : List X) (n i : ℕ) (r : Option ℕ) → n ≤ i → ((j : ℕ) (x : X) → j < n → slice_get xs j ≡ Some x → p x ≡ false) → r ≡ position p (take (i - n) (drop n xs)) → option_map (λ k. n + k) r ≡ position p (take i xs)
 before_from {X} p xs n i r le h is =
     let all : n + (i - n) ≡ i = omega arith in
@@ -117,7 +117,7 @@ none_before p xs n i le h =
     let lt = taken_within xs i r.0 x r.2 in
     h r.0 x (omega arith) (get_taken xs i r.0 x r.2)))
 
--- The first position from the n-th on, if the test is false for all from the m-th on.
+-- A search from n to m finds the first position from n on, if the test is false from m on.
 pub from_before : {X : Type 0} (p : X → Bool) (xs : List X) (n m : ℕ) (r : Option ℕ) → ((j : ℕ) (x : X) → m ≤ j → slice_get xs j ≡ Some x → p x ≡ false) → r ≡ position p (take (m - n) (drop n xs)) → option_map (λ k. n + k) r ≡ option_map (λ k. n + k) (position p (drop n xs))
 from_before {X} p xs n m r h is =
     ap (option_map (λ (k : ℕ). n + k))

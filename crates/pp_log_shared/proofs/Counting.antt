@@ -123,7 +123,7 @@ changed f still owner label old new now is counts h q = at (same_holder (holder_
         ap (λ (t : Option Counted). amount q (counted_of t)) found ∙ sym (still (held old h q))
         ∙ ap (λ (b : Bool). f (held old h q) (one_if (b && is_number q label.number))) (sym other)
 
--- A number that passes the test of all numbers passes that of the numbers of others.
+-- If a disjunction is true and its second part is not, its first part is.
 or_left : (a b : Bool) → (a || b) ≡ true → (b ≡ true → ⊥) → a ≡ true
 or_left true b h never = refl
 or_left false b h never = absurd (never h)

@@ -166,7 +166,7 @@ module _ {Shape State Op Undo : Type 0} (o : Object Shape State Op Undo) (label_
     pub tells_nothing : KeepsOpen o label_of part_of [] []
     tells_nothing = record { told = λ p. refl }
 
-    -- The known facts about the entries of one part.
+    -- The facts that the log keeps about a part are true for the entries of the part.
     pub told_at : (slots : List (Part × OpenPart (SampleList Op))) (x : List (SharedEntry Op)) (p : Part) (r : Option (OpenPart (SampleList Op))) → lookup (same_part p) slots ≡ r → KeepsOpen o label_of part_of slots x → TellsOf o label_of r (open_in part_of p x)
     told_at slots x p r is kept = subst (λ (s : Option (OpenPart (SampleList Op))). TellsOf o label_of s (open_in part_of p x)) is (kept.told p)
 

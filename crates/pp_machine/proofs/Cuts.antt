@@ -119,7 +119,7 @@ not_placed {Op} l id h a i e =
     let n = find_nowhere (λ (z : LocalEntry Op). z.id == id) l (place_none (λ (z : LocalEntry Op). z.id == id) l h) a i in
     let z : true ≡ false = sym (eq-eqb a.id id e) ∙ n in cc
 
--- If there is a position, it is known.
+-- An option that is not `None` has a value.
 pub a_place : (r : Option ℕ) (b : Bool) → b ≡ is_some r → b ≡ true → (k : ℕ) × (r ≡ Some k)
 a_place None b e t = let z : true ≡ false = sym t ∙ e in cc
 a_place (Some k) b e t = (k, refl)

@@ -31,7 +31,7 @@ there_1 {A} o f e = subst (λ (w : Option A). FirstFalse (there w f) 1) (sym e) 
 pub there_more : {A : Type 0} (o : Option A) (f : A → List (Type 0)) (x : A) (n : ℕ) → o ≡ Some x → FirstFalse (f x) (suc n) → FirstFalse (there o f) (suc (suc n))
 there_more {A} o f x n e h = subst (λ (w : Option A). FirstFalse (there w f) (suc (suc n))) (sym e) (tt, h)
 
--- If there is a value, its evidence begins after the first criterion.
+-- The first criterion, that a value is there, has no evidence.
 pub there_shown_1 : {A Op : Type 0} (q : Option A) (f : A → List (Detail Op)) → Nothing ≡ at_number (if_there q f) 1
 there_shown_1 None f = refl
 there_shown_1 (Some x) f = refl

@@ -324,7 +324,7 @@ module _ {Shape State Op Undo : Type 0} (o : Object Shape State Op Undo) (shape 
   owns t id m d l r p i q at =
       (open_of t r.thread r.body l, r.at, record { within = slice_within l.1 i p at; entry = p; here = at; own = λ e. d (sym (found_mark id m l.1 p q).2 ∙ e) })
 
-  -- The course of t, if t is one of the transactions.
+  -- The course of the transaction t is the lent one.
   same_course : (t : Name) (k : Guided Shape Op) → HasCourse o shape v ids G F n h t k → (x : Open Shape Op) → In x v.opened → x.name ≡ t → course_of x ≡ k
   same_course t k r x i e =
       let q = found (λ (z : Open Shape Op). z.name =ⁿ t) v.opened _ (r.log).at in
@@ -344,7 +344,7 @@ module _ {Shape State Op Undo : Type 0} (o : Object Shape State Op Undo) (shape 
   pub course_same : (t : Name) (k new : Guided Shape Op) → HasCourse o shape v ids G F n h t k → new ≡ k → with_course t new v ≡ v
   course_same t k new r e = with_course_is t k new r (λ z. z) e ∙ ap (λ (z : List (Open Shape Op)). record { names = v.names; opened = z }) (all_same v.opened t)
 
-  -- A fact about the open transaction t is a fact about its course.
+  -- The course of the open transaction t is the lent one.
   pub of_course : (t : Name) (k : Guided Shape Op) → HasCourse o shape v ids G F n h t k → (x : Open Shape Op) → open_at t v.opened ≡ Some x → course_of x ≡ k
   of_course t k r x e =
       ap (λ (z : Open Shape Op). course_of z) (same_Some x _ (sym e ∙ (r.log).at))

@@ -110,7 +110,7 @@ module _ (k : Kind) {G : Type 0} (gaps : GapsOf k G) where
       let d = (gaps.differ g (state_of k s) t).0 h in
       (d.1, d.3, subst (λ (v : States k). gaps.Differ g v d.1) (sym (one_state k s d.0 d.2)) d.4)
 
-  -- The gap that an act leaves is the one of its kind.
+  -- If an operation of a kind leaves no gap, neither does its act.
   leaves_same : (a : Ops k) (u : Undo)
       → Leaves (object_of k) gaps.Bears gaps.Differ a (undo_from k u) left.Same
       → (s : States k) → one.upkeep.IsState (state_of k s) → IsLegal one (state_of k s) (act_of k a)
@@ -161,7 +161,7 @@ module _ (k : Kind) {G : Type 0} (gaps : GapsOf k G) where
       subst (λ (y : Act). P y q) (sym e)
       (subst (λ (l : Left ActGap). P (act_of k a) l) (sym i) (leaves_by a u r h))
 
-  -- An act changes a gap as its kind does.
+  -- If an operation keeps the same undo value in two states of its kind, so does its act.
   kept_there : (s t : States k) (a : Ops k)
       → (object_of k).upkeep.kept t a ≡ (object_of k).upkeep.kept s a
       → one.upkeep.kept (state_of k t) (act_of k a) ≡ one.upkeep.kept (state_of k s) (act_of k a)
@@ -257,7 +257,7 @@ module _ (k : Kind) {G : Type 0} (gaps : GapsOf k G) where
       (subst (λ (c : Crossed ActGap Undo). P (gaps.wrap g) (act_of k a) c) (sym j)
       (crosses_by g a r h)))
 
-  -- The gap of an object is borne and closed as in its kind.
+  -- An object bears a gap that its state bears in its kind.
   pub bears_here : (f : ActGap) (g : G) (w : ObjectState) (s : States k) → f ≡ gaps.wrap g
       → w ≡ state_of k s → gaps.Bears g s → OneBears f w
   bears_here f g w s e i h =

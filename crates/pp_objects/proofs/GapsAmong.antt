@@ -42,7 +42,7 @@ kept_there : (ss : List ObjectState) (x : Op) (s : ObjectState) → slice_get ss
     → objects.upkeep.kept ss x ≡ one.upkeep.kept s x.act
 kept_there ss x s e = ap (λ (t : Option ObjectState). kept_in one t x.act) e
 
--- The gap that an operation leaves is the one of its act.
+-- If an act leaves no gap, neither does its operation.
 same_there : (x : Op) (u : Undo) → Leaves one OneBears OneDiffer x.act u left.Same
     → Leaves objects Bears Differ x u left.Same
 same_there x u leaves ss is h kept =
@@ -134,7 +134,7 @@ meets_there g x u ss ts s b e met = record {
   kept = kept_there ts x b.other b.there ∙ met.kept;
 }
 
--- An operation changes a gap at its place as its act does.
+-- The objects bear a gap at a place if the object there bears it.
 bears_there : (g : ActGap) (x : Op) (ss : List ObjectState) (s : ObjectState)
     → slice_get ss x.object ≡ Some s → OneBears g s → Bears (gap_at x.object g) ss
 bears_there g x ss s e h v f = subst (λ (w : ObjectState). OneBears g w) (same_some s v (sym e ∙ f)) h
@@ -196,7 +196,7 @@ apart_crossed f x g r e i h =
     subst (λ (p : ℕ).
     Crosses objects Bears Differ (gap_at p f.act) x (crossed.Apart (gap_at p g))) e there
 
--- Closing a gap changes the object at its place alone.
+-- If a gap may be closed among the objects, it may be closed at its object.
 pub may_close_there : (f : Gap) (ss : List ObjectState) (s : ObjectState)
     → slice_get ss f.object ≡ Some s → MayClose objects Differ f ss → MayClose one OneDiffer f.act s
 may_close_there f ss s e h =

@@ -23,7 +23,7 @@ use Rattle.pp_objects.specs.laws.One.{one_lawful, reached_shape, others_swap}
 use Rattle.pp_objects.specs.laws.Elements.{same_place}
 use Rattle.pp_objects.specs.laws.Places as places
 
--- An operation that swaps with an addition of a number other than 0 is an addition.
+-- What swaps with an addition of a number other than 0 swaps with every addition.
 add_before : (d e : ℤ) (c : CounterOp) → not (int_eq d (pos 0)) ≡ true
     → may_swap (Add d) c ≡ true → may_swap (Add e) c ≡ true
 add_before d e (Add x) n t = refl
