@@ -132,6 +132,7 @@ module _ {Shape State Op Undo : Type 0} (o : Object Shape State Op Undo) (ps : L
   -- Some were tried, and those at the positions `rest` were not yet. Their views are as they were, and so is each without a number. Each
   -- other view has the least number, this one included.
   module _ (number : ℕ) (state : State) (old : List View) where
+    -- The views after some candidates were tried, and those at the positions `rest` were not yet.
     pub record AreViewsSoFar (views : List View) (rest : List ℕ) : Type 0 where
       pub long : length views ≡ length old
       pub apart : AreApart rest

@@ -48,9 +48,11 @@ module _ {Shape State Op Undo : Type 0} (o : Object Shape State Op Undo) (ps : L
 
     -- at a candidate
     module _ (may : MayBeNumbered o s ps old candidates) (xs : List Candidate) (same : xs ≡ candidates.list.items) (there : k < length xs) where
+      -- The candidate that is tried.
       abbrev pub at : Candidate
       at = get_or xs k nobody
 
+      -- The candidates after it.
       abbrev pub behind : List Candidate
       behind = drop (k + 1) candidates.list.items
 
@@ -75,12 +77,15 @@ module _ {Shape State Op Undo : Type 0} (o : Object Shape State Op Undo) (ps : L
       spent_here : IsSpent ps (at.position ∷ positions_of behind) (length done) first now
       spent_here = subst (λ (w : List Candidate). IsSpent ps (positions_of w) (length done) first now) cut h.spent
 
+      -- The peak of the candidate, with its position.
       abbrev pub the_peak : (p : Peak Op) × StandsAt ps at.position p
       the_peak = some_stands ps at.position position_within
 
+      -- The peak of the candidate.
       abbrev pub p : Peak Op
       p = the_peak.0
 
+      -- The peak of the candidate is at its position.
       abbrev pub here : StandsAt ps at.position p
       here = the_peak.1
 

@@ -10,6 +10,7 @@ use Rattle.pp_model.specs.Names.{Name, ◌=ⁿ◌}
 use Rattle.pp_model.specs.Object.{Item}
 use Rattle.pp_attempts.specs.Peaks.{Peak, operations}
 
+-- the elements of a vector, if there is one
 abbrev pub kept : {A : Type 0} → Option (Vec A) → List A
 kept None = []
 kept (Some list) = list.items

@@ -71,6 +71,7 @@ abbrev pub HaveRests : {Op : Type 0} → List (Peak Op) → List Op → List Can
 HaveRests {Op} ps l cs =
     (c : Candidate) (p : Peak Op) → In c cs → StandsAt ps c.position p → HasRest l c p.ops
 
+-- the positions of some candidates
 abbrev pub positions_of : List Candidate → List ℕ
 positions_of cs = map (λ c. c.position) cs
 

@@ -13,12 +13,15 @@ use Rattle.pp_body.proofs.Patterns.{some_call}
 abbrev pub Goes : Tree → ℕ → ℕ → Bool → List Call → Type 0
 Goes b at set m v = ((m ≡ true) × Word b v) ⊎ Rest b at set v
 
+-- Calls that may follow in parts one after another.
 abbrev pub GoesInTurn : Trees → ℕ → ℕ → Bool → List Call → Type 0
 GoesInTurn bs at set m v = ((m ≡ true) × WordInTurn bs v) ⊎ RestInTurn bs at set v
 
+-- Calls that may follow in any one of the parts.
 abbrev pub GoesOfSome : Trees → ℕ → ℕ → Bool → List Call → Type 0
 GoesOfSome bs at set m v = ((m ≡ true) × WordOfSome bs v) ⊎ RestOfSome bs at set v
 
+-- There are calls only if more are allowed.
 abbrev pub Allowed : Bool → List Call → Type 0
 Allowed more v = (more ≡ true) ⊎ (v ≡ [])
 

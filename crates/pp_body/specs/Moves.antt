@@ -56,6 +56,7 @@ moves_one p at set c =
 
 -- the effect of a call in a body, in parts one after another, and in any one of them
 abbrev mutual
+  -- the effect of a call in a body
   pub moves : Tree → ℕ → ℕ → Call → Moves
   moves Skip at set c = passing
   moves (One p) at set c = moves_one p at set c
@@ -63,19 +64,22 @@ abbrev mutual
   moves (Alt bs) at set c = moves_of_some bs at set c
   moves (Star b) at set c = again (moves b at set c)
 
+  -- the effect of a call in parts one after another
   pub moves_in_turn : Trees → ℕ → ℕ → Call → Moves
   moves_in_turn NoPart at set c = passing
   moves_in_turn (Part b bs) at set c =
       first_then (moves b at set c) (moves_in_turn bs (at + nodes b) set c)
 
+  -- the effect of a call in any one of the parts
   pub moves_of_some : Trees → ℕ → ℕ → Call → Moves
   moves_of_some NoPart at set c = nowhere
   moves_of_some (Part b bs) at set c =
       either (moves b at set c) (moves_of_some bs (at + nodes b) set c)
 
--- the same, each with the place after the parts
+-- the effect in parts one after another, with the place after the parts
 abbrev pub moves_in_turn_to : Trees → ℕ → ℕ → Call → Moves × ℕ
 moves_in_turn_to bs at set c = (moves_in_turn bs at set c, at + nodes_of_all bs)
 
+-- the effect in any one of the parts, with the place after the parts
 abbrev pub moves_of_some_to : Trees → ℕ → ℕ → Call → Moves × ℕ
 moves_of_some_to bs at set c = (moves_of_some bs at set c, at + nodes_of_all bs)

@@ -52,6 +52,7 @@ can_go_on b reached c =
     let last = last_state 0 true reached in
     reaches true b 0 (shift b 0 last.0 last.1 c) false
 
+-- whether the calls taken are a word
 abbrev pub can_end : Tree → List ℕ → Bool
 can_end b reached =
     let last = last_state 0 true reached in

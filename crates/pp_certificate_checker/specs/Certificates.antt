@@ -33,6 +33,7 @@ Step Shape Op = Result (Stage Shape Op) Refusal
 abbrev pub Reader : Type 0 → Type 0 → Type 0 → Type 0
 Reader L Shape Op = Stage Shape Op → L → Line Shape Op
 
+-- The verdict on a certificate.
 pub data Verdict (Shape State Op : Type 0) : Type 0 where
   -- all lines are taken, and they show this
   Holds : Shown Shape State Op → Verdict Shape State Op

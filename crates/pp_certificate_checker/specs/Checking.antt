@@ -43,6 +43,7 @@ module _ {Shape State Op Undo : Type 0} (o : Object Shape State Op Undo) where
   entry_cost (Exchanged shape list count) p = 0
   entry_cost (Ended shape list count n) p = 0
 
+  -- the ticks of one line
   abbrev pub cost : Stage Shape Op → Line Shape Op → ℕ
   cost s Blank = 0
   cost s (Head shape) = 0

@@ -15,6 +15,7 @@ abbrev pub step : {A Shape Op : Type 0} → Stage Shape Op → Result A Refusal 
 step t (Ok a) = Ok t
 step t (Err why) = Err why
 
+-- the stage of the kept data
 abbrev pub stage_of : {Shape State Op : Type 0} → Held Shape State Op → Stage Shape Op
 stage_of held.Nothing = Fresh
 stage_of (held.Entries shape list state) = Entered shape list.items

@@ -81,6 +81,7 @@ rows_from room (i ∷ row) [] = (i ∷ row) ∷ []
 rows_from zero row (i ∷ is) = row ∷ rows_from 999 (i ∷ []) is
 rows_from (suc room) row (i ∷ is) = rows_from room (row ++ i ∷ []) is
 
+-- positions in rows of a thousand
 abbrev pub rows : List ℕ → List (List ℕ)
 rows is = rows_from 1000 [] is
 

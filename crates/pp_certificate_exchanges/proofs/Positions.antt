@@ -41,6 +41,7 @@ module _ {Op : Type 0} where
   abbrev pub is_ahead : ℕ → List (Item Op) → Item Op → Bool
   is_ahead i y q = nat_lt (position q.id y) (position i y)
 
+  -- How many entries of x are ahead of the entry i in the order of y.
   abbrev pub ahead : ℕ → List (Item Op) → List (Item Op) → ℕ
   ahead i y x = count_by (is_ahead i y) x
 

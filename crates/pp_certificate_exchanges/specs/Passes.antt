@@ -9,6 +9,7 @@ abbrev pub without : {Op : Type 0} → ℕ → List (Item Op) → List (Item Op)
 without i [] = []
 without i (e ∷ x) = cond (e.id == i) x (e ∷ without i x)
 
+-- for each entry of the target, how many of the entries left it passes
 abbrev pub passes : {Op : Type 0} → List (Item Op) → List (Item Op) → List ℕ
 passes x [] = []
 passes x (e ∷ y) = position e.id x ∷ passes (without e.id x) y

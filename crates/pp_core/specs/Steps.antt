@@ -32,6 +32,7 @@ meaning (steps.Cmt t) = Cmt t
 meaning (steps.Quit t) = Quit t
 meaning (steps.Note t) = Note t
 
+-- the rule of a step
 abbrev pub rule_of : {Op : Type 0} → Step Op → Rule
 rule_of (Begin t p b) = rules.Begin
 rule_of (App t id op) = rules.App

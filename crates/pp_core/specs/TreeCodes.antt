@@ -13,6 +13,7 @@ abbrev pub Token : Type 0
 Token = ℕ ⊎ Pattern
 
 abbrev mutual
+  -- the tokens of a body, before further tokens
   pub written : Tree → List Token → List Token
   written Skip k = inl 0 ∷ k
   written (One p) k = inr p ∷ k
@@ -20,6 +21,7 @@ abbrev mutual
   written (Alt bs) k = inl 1 ∷ all_written bs (inl 3 ∷ k)
   written (Star b) k = inl 1 ∷ written b (inl 4 ∷ k)
 
+  -- the tokens of some bodies, before further tokens
   pub all_written : Trees → List Token → List Token
   all_written NoPart k = k
   all_written (Part b bs) k = all_written bs (written b k)
@@ -35,10 +37,12 @@ abbrev pub with_part : Tree → List Trees → List Trees
 with_part b (row ∷ st) = Part b row ∷ st
 with_part b [] = []
 
+-- the first body of a row
 abbrev pub first_part : Trees → Tree
 first_part NoPart = Skip
 first_part (Part b bs) = b
 
+-- the stack after one token
 abbrev pub put : Token → List Trees → List Trees
 put (inr p) st = with_part (One p) st
 put (inl zero) st = with_part Skip st
@@ -47,10 +51,12 @@ put (inl (suc (suc zero))) st = closed (λ bs. Seq bs) st
 put (inl (suc (suc (suc zero)))) st = closed (λ bs. Alt bs) st
 put (inl (suc (suc (suc (suc n))))) st = closed (λ bs. Star (first_part bs)) st
 
+-- the stack after some tokens
 abbrev pub read : List Token → List Trees → List Trees
 read [] st = st
 read (t ∷ ts) st = read ts (put t st)
 
+-- the first body of the row on top of the stack
 abbrev pub only : List Trees → Tree
 only [] = Skip
 only (row ∷ st) = first_part row

@@ -19,6 +19,7 @@ mutual
     NoPart : Trees
     Part : Tree → Trees → Trees
 
+-- the data of a list of bodies
 abbrev pub trees : List Tree → Trees
 trees [] = NoPart
 trees (b ∷ bs) = Part b (trees bs)
@@ -31,13 +32,16 @@ tree_step (Body-F.Seq bs) = Seq (trees bs)
 tree_step (Body-F.Alt bs) = Alt (trees bs)
 tree_step (Body-F.Star b) = Star b.value
 
+-- the data of a body
 abbrev pub tree : Body → Tree
 tree = fold-Body Tree tree_step
 
+-- the data of the bodies in a list
 abbrev pub trees_of : List Body → Trees
 trees_of bs = trees (map tree bs)
 
 abbrev mutual
+  -- how many nodes a body has
   pub nodes : Tree → ℕ
   nodes Skip = 1
   nodes (One p) = 1
@@ -45,11 +49,13 @@ abbrev mutual
   nodes (Alt bs) = nodes_of_all bs + 1
   nodes (Star b) = nodes b + 1
 
+  -- how many nodes some bodies have together
   pub nodes_of_all : Trees → ℕ
   nodes_of_all NoPart = 0
   nodes_of_all (Part b bs) = nodes b + nodes_of_all bs
 
 abbrev mutual
+  -- how deep a body is
   pub depth : Tree → ℕ
   depth Skip = 1
   depth (One p) = 1
@@ -57,6 +63,7 @@ abbrev mutual
   depth (Alt bs) = depth_of_all bs + 1
   depth (Star b) = depth b + 1
 
+  -- the depth of the deepest of some bodies
   pub depth_of_all : Trees → ℕ
   depth_of_all NoPart = 0
   depth_of_all (Part b bs) = max (depth b) (depth_of_all bs)
@@ -65,6 +72,7 @@ abbrev mutual
 abbrev pub IsWithin : Tree → Type 0
 IsWithin b = (nodes b ≤ MOST_BODY_NODES) × (depth b ≤ MOST_DEPTH)
 
+-- a body is within the limits, if there is one
 abbrev pub IsWithinLimits : Option Tree → Type 0
 IsWithinLimits None = Unit {0}
 IsWithinLimits (Some b) = IsWithin b

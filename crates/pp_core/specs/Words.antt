@@ -27,6 +27,7 @@ kind_word kind.Queue = codes "queue"
 kind_word kind.Stack = codes "stack"
 kind_word kind.PriorityQueue = codes "prio"
 
+-- all kinds of objects
 abbrev pub kinds : List Kind
 kinds = kind.Memory ∷ kind.KeySet ∷ kind.KeyMap ∷ kind.Counter ∷ kind.Queue ∷ kind.Stack
     ∷ kind.PriorityQueue ∷ []
@@ -58,6 +59,7 @@ style_word style.Optimistic = codes "optimistic"
 style_word style.Hardware = codes "hardware"
 style_word style.Dependent = codes "dependent"
 
+-- all styles
 abbrev pub styles : List Style
 styles = style.Rules ∷ style.Boosted ∷ style.Optimistic ∷ style.Hardware ∷ style.Dependent ∷ []
 

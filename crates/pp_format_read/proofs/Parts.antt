@@ -43,6 +43,7 @@ unfolding star_among
 star_is objects no_members = refl
 star_is objects (member k d ms) = at_key (λ (e : Data). as_star (body_of objects e)) (slice_cmp nat_cmp (codes "star") k) d _ _ (star_is objects ms)
 
+-- The body that the members of a value are read as.
 abbrev pub by_members : Objects → Data → Result Tree RecordFault
 by_members objects d =
     form_of objects d (option_map (λ e. as_seq (bodies_of objects e)) (get (codes "seq") d)) (option_map (λ e. as_alt (bodies_of objects e)) (get (codes "alt") d))

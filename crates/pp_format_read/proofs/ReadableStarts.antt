@@ -107,6 +107,7 @@ call_there place kind value =
     behind_any (arguments_of kind method value) _ _ (λ list.
     behind_any (argument 0 list) _ _ (λ first. behind_any (argument 1 list) _ _ (λ second. behind_any (argument 2 list) _ _ (λ third. refl)))))
 
+-- An operation is one on an object of the run, with numbers in the range of records.
 abbrev pub IsReadableOp : Objects → Op → Type 0
 IsReadableOp catalog op = IsTrue (objects.fits (kinds_of catalog) op) × IsTrue (objects.ranged op)
 

@@ -65,6 +65,7 @@ form_of objects value seq alt star =
 
 -- a body, the three members that hold bodies, and the bodies of an array
 unfoldable mutual
+  -- the body that a value is
   pub body_of : Objects → Data → Result Tree RecordFault
   body_of objects (object ms) =
       form_of objects (object ms) (seq_among objects ms) (alt_among objects ms)
@@ -75,24 +76,28 @@ unfoldable mutual
   body_of objects (string s) = Err BodyBad
   body_of objects (array ds) = Err BodyBad
 
+  -- the sequence among the members, if there is one
   pub seq_among : Objects → Members → Option (Result Tree RecordFault)
   seq_among objects no_members = None
   seq_among objects (member k d ms) =
       match_ordering (slice_cmp nat_cmp (codes "seq") k)
       (seq_among objects ms) (Some (as_seq (bodies_of objects d))) (seq_among objects ms)
 
+  -- the choice among the members, if there is one
   pub alt_among : Objects → Members → Option (Result Tree RecordFault)
   alt_among objects no_members = None
   alt_among objects (member k d ms) =
       match_ordering (slice_cmp nat_cmp (codes "alt") k)
       (alt_among objects ms) (Some (as_alt (bodies_of objects d))) (alt_among objects ms)
 
+  -- the repetition among the members, if there is one
   pub star_among : Objects → Members → Option (Result Tree RecordFault)
   star_among objects no_members = None
   star_among objects (member k d ms) =
       match_ordering (slice_cmp nat_cmp (codes "star") k)
       (star_among objects ms) (Some (as_star (body_of objects d))) (star_among objects ms)
 
+  -- the bodies of an array
   pub bodies_of : Objects → Data → Result (List Tree) RecordFault
   bodies_of objects (array ds) = bodies_in objects ds
   bodies_of objects null = Err BodyBad
@@ -101,6 +106,7 @@ unfoldable mutual
   bodies_of objects (string s) = Err BodyBad
   bodies_of objects (object ms) = Err BodyBad
 
+  -- the bodies of the elements of an array
   pub bodies_in : Objects → Items → Result (List Tree) RecordFault
   bodies_in objects no_items = Ok []
   bodies_in objects (item d ds) =

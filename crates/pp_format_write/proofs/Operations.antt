@@ -80,6 +80,7 @@ parts a h = and_parts (has_ranged_arguments (call_of a)) (is_ranged_answer (reco
 pub answer_ranged : (catalog : Objects) (op : Op) → IsOpOn catalog op → IsTrue (is_ranged_answer (recorded_by op.act))
 answer_ranged catalog op h = (parts op.act h.1).1
 
+-- The arguments of a call are in the range of records.
 pub record AreRanged (c : Call) : Type 0 where
   pub first : IsTrue (in_range c.first)
   pub second : IsTrue (in_range c.second)

@@ -33,6 +33,7 @@ abbrev pub is_before : List ℕ → Members → Bool
 is_before k no_members = true
 is_before k (member l d ms) = match_ordering (slice_cmp nat_cmp l k) false false true && is_before k ms
 
+-- Whether the keys of members rise.
 abbrev pub keys_rise : Members → Bool
 keys_rise no_members = true
 keys_rise (member k d ms) = is_before k ms && keys_rise ms

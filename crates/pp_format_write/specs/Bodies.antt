@@ -30,15 +30,17 @@ pattern_members catalog p =
     (member (codes "call") (string (method_word p.method))
     (member (codes "on") (string (name_at catalog p.object)) no_members))
 
--- parts one after another, and any one of the parts
+-- the value of parts one after another
 abbrev pub seq_value : List Data → Data
 seq_value parts = object (member (codes "seq") (array (items_of parts)) no_members)
 
+-- the value of a choice of parts
 abbrev pub alt_value : List Data → Data
 alt_value parts = object (member (codes "alt") (array (items_of parts)) no_members)
 
 -- the members of a body, and the values of its parts
 abbrev mutual
+  -- the members of a body
   pub body_members : Objects → Tree → Members
   body_members catalog Skip = member (codes "skip") (boolean true) no_members
   body_members catalog (One p) = pattern_members catalog p
@@ -49,10 +51,12 @@ abbrev mutual
   body_members catalog (Star b) =
       member (codes "star") (object (body_members catalog b)) no_members
 
+  -- the values of some parts
   pub part_values : Objects → Trees → Items
   part_values catalog NoPart = no_items
   part_values catalog (Part b bs) =
       item (object (body_members catalog b)) (part_values catalog bs)
 
+-- the value of a body
 abbrev pub body_value : Objects → Tree → Data
 body_value catalog b = object (body_members catalog b)

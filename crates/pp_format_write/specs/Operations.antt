@@ -35,10 +35,11 @@ answer_value NoAnswer = null
 answer_value (Number n) = number (of_integer n)
 answer_value (Truth t) = boolean t
 
--- the method of an act, and how many arguments its call has
+-- the word of the method of an act
 abbrev pub word_of : Act → List ℕ
 word_of act = method_word (call_of act).method
 
+-- how many arguments the call of an act has
 abbrev pub arity_in : Act → ℕ
 arity_in act = arity_of (kind_for act) (call_of act).method
 

@@ -32,6 +32,7 @@ IsOpOn catalog op = IsTrue (objects.fits (kinds_of catalog) op) × IsTrue (objec
 
 -- each call of a body has a property
 abbrev mutual
+  -- each call of a body has a property
   pub EachCall : (Pattern → Type 0) → Tree → Type 0
   EachCall P Skip = Unit {0}
   EachCall P (One p) = P p
@@ -39,6 +40,7 @@ abbrev mutual
   EachCall P (Alt bs) = EachCallIn P bs
   EachCall P (Star b) = EachCall P b
 
+  -- each call of some bodies has a property
   pub EachCallIn : (Pattern → Type 0) → Trees → Type 0
   EachCallIn P NoPart = Unit {0}
   EachCallIn P (Part b bs) = EachCall P b × EachCallIn P bs
@@ -69,11 +71,13 @@ pub record IsPatternOn (catalog : Objects) (p : Pattern) (kind : Kind) : Type 0 
   pub second : IsWanted 1 (arity_of kind p.method) p.second
   pub third : IsWanted 2 (arity_of kind p.method) p.third
 
+-- the pattern can be stated for the objects of the run
 abbrev pub IsStatablePattern : Objects → Pattern → Type 0
 IsStatablePattern catalog p = (kind : Kind) × IsPatternOn catalog p kind
 
 -- each choice in a body has a part
 abbrev mutual
+  -- each choice in a body has a part
   pub HasChoices : Tree → Type 0
   HasChoices Skip = Unit {0}
   HasChoices (One p) = Unit {0}
@@ -82,6 +86,7 @@ abbrev mutual
   HasChoices (Alt (Part b bs)) = HasChoices b × HaveChoices bs
   HasChoices (Star b) = HasChoices b
 
+  -- each choice in some bodies has a part
   pub HaveChoices : Trees → Type 0
   HaveChoices NoPart = Unit {0}
   HaveChoices (Part b bs) = HasChoices b × HaveChoices bs

@@ -17,10 +17,11 @@ abbrev pub tx_members : List ℕ → List ℕ → Members
 tx_members word tx =
     member (codes "step") (string word) (member (codes "tx") (string tx) no_members)
 
--- a record of a transaction alone, and one of an entry
+-- a record of a transaction alone
 abbrev pub tx_value : List ℕ → List ℕ → Data
 tx_value word tx = object (tx_members word tx)
 
+-- a record of an entry of a transaction
 abbrev pub entry_value : List ℕ → List ℕ → ℕ → Data
 entry_value word tx id = object (member (codes "id") (number (unsigned id)) (tx_members word tx))
 
@@ -29,6 +30,7 @@ abbrev pub with_body : Objects → Option Tree → Members → Members
 with_body catalog None others = others
 with_body catalog (Some body) others = member (codes "body") (body_value catalog body) others
 
+-- the members of a record of a begin
 abbrev pub begin_members : Objects → List ℕ → List ℕ → Option Tree → Members
 begin_members catalog tx thread body =
     with_body catalog body

@@ -52,6 +52,7 @@ rule alike found left then_found then_left =
     || (alike left then_left && (alike then_left found && alike found then_found))
 
 module _ {State Op Cell : Type 0} (k : ToldKeys State Op Cell) where
+  -- the cells and the actions of keys whose operations record what they find
   abbrev pub told_keys : Keys State Op Cell
   told_keys = record {
     cell = k.cell;

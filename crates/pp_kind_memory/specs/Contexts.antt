@@ -47,6 +47,7 @@ abbrev pub write_of : ℤ → Option ℤ → List MemOp
 write_of a None = []
 write_of a (Some v) = Write a v ∷ []
 
+-- a read of a number, if there is one
 abbrev pub read_of : ℤ → Option ℤ → List MemOp
 read_of a None = []
 read_of a (Some v) = Read a v ∷ []

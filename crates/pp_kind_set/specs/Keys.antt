@@ -8,10 +8,11 @@ use Rattle.std.specs.FinMap as map
 abbrev pub contains : FinSet int_cmp → ℤ → Bool
 contains s k = map.contains_key s k
 
--- the set with a key, and without it
+-- the set with one more key
 abbrev pub insert : FinSet int_cmp → ℤ → FinSet int_cmp
 insert s k = map.insert s k tt
 
+-- the set without a key
 abbrev pub remove : FinSet int_cmp → ℤ → FinSet int_cmp
 remove s k = map.remove s k
 
@@ -24,5 +25,6 @@ abbrev pub marked : List ℤ → List (ℤ × Unit {0})
 marked [] = []
 marked (k ∷ ks) = (k, tt) ∷ marked ks
 
+-- the set of some keys
 abbrev pub set_of : List ℤ → FinSet int_cmp
 set_of ks = map.from_entries (marked ks)

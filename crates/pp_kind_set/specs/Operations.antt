@@ -18,12 +18,13 @@ key_of (Add k changed) = k
 key_of (Remove k changed) = k
 key_of (Contains k present) = k
 
--- whether its key is in before it, by its result, and after it
+-- whether the key is in before the operation, by its result
 abbrev pub bit_before : SetOp → Bool
 bit_before (Add k changed) = not changed
 bit_before (Remove k changed) = changed
 bit_before (Contains k present) = present
 
+-- whether the key is in after the operation
 abbrev pub bit_after : SetOp → Bool
 bit_after (Add k changed) = true
 bit_after (Remove k changed) = false

@@ -22,9 +22,11 @@ use Rattle.pp_laws_locality.proofs.Filtered.{filter_again}
 abbrev pub own_at : {Op : Type 0} → (Op → ℕ) → ℕ → List (LocalEntry Op) → List (LocalEntry Op)
 own_at place o l = filter (λ e. place e.op == o) l
 
+-- The entries of a shared log on an object.
 abbrev pub shared_at : {Op : Type 0} → (Op → ℕ) → ℕ → List (SharedEntry Op) → List (SharedEntry Op)
 shared_at place o G = filter (λ g. place g.op == o) G
 
+-- The items on an object.
 abbrev pub items_at : {Op : Type 0} → (Op → ℕ) → ℕ → List (Item Op) → List (Item Op)
 items_at place o l = filter (λ p. place p.op == o) l
 

@@ -13,6 +13,7 @@ use Rattle.pp_laws_opacity.specs.Orders.{Committed, Execution, Uncommitted, comm
 abbrev pub IsPlaced : {Op : Type 0} → Execution Op → List (Execution Op) → ℕ → Type 0
 IsPlaced {Op} p l k = (before rest : List (Execution Op)) × (l ≡ before ++ p ∷ rest) × (length (committed_in before) ≡ k)
 
+-- No element of a list occurs twice.
 abbrev pub AreApart : {A : Type 0} → List A → Type 0
 AreApart {A} l = (p q : A) → Before p q l → p ≢ q
 
@@ -20,6 +21,7 @@ module _ {Op : Type 0} (t : Name) (seen : List (Step Op)) where
   abbrev x : Execution Op
   x = Uncommitted t seen
 
+  -- The executions with one more, after n committed ones.
   abbrev pub insert : ℕ → List (Execution Op) → List (Execution Op)
   insert zero l = Uncommitted t seen ∷ l
   insert (suc n) [] = Uncommitted t seen ∷ []
@@ -200,9 +202,11 @@ pub record Place (Op : Type 0) : Type 0 where
   pub tx : Name
   pub seen : List (Step Op)
 
+-- The execution of an uncommitted attempt.
 abbrev pub part : {Op : Type 0} → Place Op → Execution Op
 part c = Uncommitted c.tx c.seen
 
+-- The executions of committed attempts, with the uncommitted ones inserted.
 abbrev pub built : {Op : Type 0} → List (Attempt Op) → List (Place Op) → List (Execution Op)
 built A [] = map Committed A
 built A (c ∷ N) = insert c.tx c.seen c.n (built A N)

@@ -24,6 +24,7 @@ pub record Unfinished (Op : Type 0) : Type 0 where
   pub tx : Name
   pub seen : List (Step Op)
 
+-- The unfinished attempt of t after some steps.
 abbrev pub unfinished_at : {Op : Type 0} → Name → List (Step Op) → Unfinished Op
 unfinished_at t seen = record { tx = t; seen = seen }
 
@@ -97,6 +98,7 @@ module _ {Op State : Type 0} (O : Object Op State) (h : Option (Start Op)) (met 
   abbrev open_now : List (Unfinished Op)
   open_now = map (λ x. unfinished_at x.name past) (filter applies (after h past).opened)
 
+  -- All unfinished attempts: those given up, and those open now.
   abbrev pub unfinished : List (Unfinished Op)
   unfinished = given_up [] past ++ open_now
 

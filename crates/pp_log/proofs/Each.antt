@@ -30,9 +30,11 @@ filter_at {A} t (b ∷ x) (suc i) a at front here =
 -- Those after the k-th of the items, e, have left the entries x, and e is to leave.
 module _ {Op E : Type 0} (f : E → Item Op) (own : List (Item Op)) (x : List E) (ids : Index) (can : CanLeaveOut own (map f x) ids)
     (k : ℕ) (e : Item Op) (lt : k < length own) (is : e ≡ get_or own k e) (n : ℕ) (n_is : n ≡ k + 1) (now : List E) (left : now ≡ without_items f (drop n own) x) where
+  -- The items of the entries.
   abbrev pub log : List (Item Op)
   log = map f x
 
+  -- The items after the k-th.
   abbrev pub last : List (Item Op)
   last = drop (k + 1) own
 

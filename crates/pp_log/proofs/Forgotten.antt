@@ -61,9 +61,11 @@ module _ {Shape State Op Undo : Type 0} (o : Object Shape State Op Undo) (batch 
   -- the k-th one, e, is next
   module _ (k : ℕ) (e : Item Op) (lt : k < length batch) (is : e ≡ get_or batch k e) (n : ℕ) (n_is : n ≡ k + 1) (js : Index) (now : List ℕ) (part : AreForgotten o batch ids here n js now)
       (log items : List (Item Op)) (can : CanForget o batch ids here log items) where
+    -- The log without the batch.
     abbrev pub log_now : List (Item Op)
     log_now = now_of o batch log can.distinct can.may k e lt is
 
+    -- The items of the place without the batch.
     abbrev pub items_now : List (Item Op)
     items_now = now_of o batch items can.distinct_here can.may_here k e lt is
 

@@ -36,6 +36,7 @@ use Rattle.pp_log.proofs.Whole.{allowed_fit, base_allowed, log_of, whole_of}
 
 -- The items of a place, and those of all others, as those that pass a test.
 module _ {Op : Type 0} (place : Op → ℕ) (p : ℕ) where
+  -- An item of the place p.
   abbrev pub at_place : Item Op → Bool
   at_place e = nat_eq (place e.op) p
 
@@ -71,12 +72,15 @@ module _ {Shape State Op Undo : Type 0} (o : Object Shape State Op Undo) (place 
   abbrev p : ℕ
   p = place first.op
 
+  -- The items of the place p.
   abbrev pub items : List (Item Op)
   items = there place p log
 
+  -- The items of the place that are not of the batch.
   abbrev pub others : List (Item Op)
   others = without_items itself batch items
 
+  -- The log without the batch.
   abbrev pub rest_log : List (Item Op)
   rest_log = without_items itself batch log
 

@@ -138,6 +138,7 @@ found_item {Op} x distinct e i found inside =
 -- Those after the k-th of the items, e, have left the list, and e is to leave.
 module _ {Shape State Op Undo : Type 0} (o : Object Shape State Op Undo) (own log : List (Item Op)) (distinct : HasDistinctIds log) (may : MayLeave o own log)
     (k : ℕ) (e : Item Op) (lt : k < length own) (is : e ≡ get_or own k e) where
+  -- The log without the items after the k-th.
   abbrev pub now_of : List (Item Op)
   now_of = without_items itself (drop (k + 1) own) log
 
@@ -198,6 +199,7 @@ module _ {Shape State Op Undo : Type 0} (o : Object Shape State Op Undo) (place 
   -- the k-th one, e, is to leave
   module _ (k : ℕ) (e : Item Op) (lt : k < length own) (is : e ≡ get_or own k e) (n : ℕ) (n_is : n ≡ k + 1) (t : State) (qs : List (Place Undo)) (js : Index) (left : HaveLeft o place own s ps ids n t qs js) where
     module _ (log : List (Item Op)) (h : KeepsAll o place s log ps ids) (leaves : MayLeave o own log) where
+      -- The log without the items after the k-th.
       abbrev pub now_log : List (Item Op)
       now_log = without_items itself (drop (k + 1) own) log
 

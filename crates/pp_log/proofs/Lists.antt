@@ -10,6 +10,7 @@ use Rattle.std.proofs.lemmas.Bool.{cases_lt}
 use borrow.Author.Tests.{lt-ltb}
 use Rattle.pp_model.specs.Lists.{In}
 
+-- The pair of two values.
 abbrev pub pair : {A B : Type 0} → A → B → A × B
 pair a b = (a, b)
 

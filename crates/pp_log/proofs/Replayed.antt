@@ -70,6 +70,7 @@ with_first_is {Op} {E} place f (b ∷ y) a some is = ap (λ (d : E). there place
 
 -- The first of some entries has a place.
 module _ {Op E : Type 0} (place : Op → ℕ) (f : E → Item Op) (y : List E) (a : E) (some : 0 < length y) (is : a ≡ get_or y 0 a) (p : ℕ) (p_is : p ≡ place (f a).op) where
+  -- The entries after the first.
   abbrev pub others : List E
   others = take (length y - 1) (drop 1 y)
 

@@ -24,6 +24,7 @@ use Rattle.pp_log.proofs.Leaving.{filter_twice, has_none, has_not, neither}
 -- The last items have left the list, and a batch right before them is to leave.
 module _ {Shape State Op Undo : Type 0} (o : Object Shape State Op Undo) (own log : List (Item Op)) (distinct : HasDistinctIds log) (may : MayLeave o own log)
     (front batch last : List (Item Op)) (cut : own ≡ front ++ (batch ++ last)) where
+  -- The log without the last items.
   abbrev pub now_of : List (Item Op)
   now_of = without_items itself last log
 
@@ -72,6 +73,7 @@ module _ {Shape State Op Undo : Type 0} (o : Object Shape State Op Undo) (own lo
 -- The own items from the k-th on have left, and those from the i-th on are next.
 module _ {Shape State Op Undo : Type 0} (o : Object Shape State Op Undo) (place : Op → ℕ) (own : List (Item Op)) (s : State) (ps : List (Place Undo)) (ids : Index)
     (i k : ℕ) (within : i ≤ k) (t : State) (qs : List (Place Undo)) (js : Index) (left : HaveLeft o place own s ps ids k t qs js) where
+  -- The items from the i-th to before the k-th.
   abbrev pub batch_of : List (Item Op)
   batch_of = take (k - i) (drop i own)
 
@@ -82,6 +84,7 @@ module _ {Shape State Op Undo : Type 0} (o : Object Shape State Op Undo) (place 
   cut_own = sym (take-append-drop i own) ∙ ap (λ (l : List (Item Op)). take i own ++ l) cut_off
 
   module _ (log : List (Item Op)) (h : KeepsAll o place s log ps ids) (may : MayLeave o own log) where
+    -- The log without the items from the k-th on.
     abbrev pub log_now : List (Item Op)
     log_now = without_items itself (drop k own) log
 

@@ -20,6 +20,7 @@ pub record Counted : Type 0 where
 abbrev pub none_counted : Counted
 none_counted = record { numbers = []; size = 0 }
 
+-- the counts, or none
 abbrev pub counted_of : Option Counted → Counted
 counted_of None = none_counted
 counted_of (Some counted) = counted
@@ -54,11 +55,12 @@ holder_at owner label = record { owner = owner; form = label.form }
 abbrev pub held : TallyList → Holder → Option ℤ → ℕ
 held tallies h q = amount q (counted_of (lookup (same_holder h) tallies))
 
--- one more is counted of this owner, form and number, or one less
+-- one more is counted of this owner, form and number
 abbrev pub Gains : TallyList → TallyList → Option Name → Label → Type 0
 Gains old new owner label = (h : Holder) (q : Option ℤ) → held new h q ≡ held old h q
     + one_if (same_holder (holder_at owner label) h && is_number q label.number)
 
+-- one less is counted of this owner, form and number
 abbrev pub Loses : TallyList → TallyList → Option Name → Label → Type 0
 Loses old new owner label = (h : Holder) (q : Option ℤ) → held new h q ≡ held old h q
     - one_if (same_holder (holder_at owner label) h && is_number q label.number)
@@ -97,11 +99,12 @@ module _ {Op : Type 0} (label_of : Op → Label) where
   CountsAllOf None x = Unit {0}
   CountsAllOf (Some numbers) x = CountsAll numbers x
 
-  -- this entry is counted more, or less
+  -- this entry is counted once more
   abbrev pub GainsEntry : NumberList → NumberList → SharedEntry Op → Type 0
   GainsEntry old new e = Gains old.all new.all None (label_of e.op)
       × Gains old.own new.own (Some e.owner) (label_of e.op)
 
+  -- this entry is counted once less
   abbrev pub LosesEntry : NumberList → NumberList → SharedEntry Op → Type 0
   LosesEntry old new e = Loses old.all new.all None (label_of e.op)
       × Loses old.own new.own (Some e.owner) (label_of e.op)

@@ -85,9 +85,11 @@ module _ {Shape State Op Undo : Type 0} (o : Object Shape State Op Undo) (v w : 
       Before a p x.local → a.mark ≡ Unpushed → (model.Swaps (rules_of o v.shape) p.op a.op → ⊥) → (d : Detail Op) → d ≡ first_swap (λ a. a.id) (λ a. o.refuting p.op a.op) (filter (λ a. is_mark a.mark Unpushed) (entries_before id x.local)) → (r : Refusal Op) → r ≡ record { criterion = 3; detail = d } → Refuses o w (Push t id) r
   push_3 t id x p a e h b m n d shown r is = refuse (Push t id) 2 r d is (there_more (tx t v.config.opened) _ x 1 e (there_more (at_mark id Unpushed x.local) _ p 0 h (λ all. n (all a b m)))) (there_shown_more (tx t v.config.opened) _ x 1 e (there_shown_more (at_mark id Unpushed x.local) _ p 0 h shown))
 
+  -- The unpushed own entries before p swap with it.
   abbrev pub OwnSwap : Tx Op → LocalEntry Op → Type 0
   OwnSwap x p = (a : LocalEntry Op) → Before a p x.local → a.mark ≡ Unpushed → model.Swaps (rules_of o v.shape) p.op a.op
 
+  -- The uncommitted entries of others swap with p.
   abbrev pub OthersSwap : Name → LocalEntry Op → Type 0
   OthersSwap t p = (u : SharedEntry Op) → In u v.config.shared → u.committed ≡ false → (u.owner ≡ t → ⊥) → model.Swaps (rules_of o v.shape) u.op p.op
 
@@ -110,6 +112,7 @@ module _ {Shape State Op Undo : Type 0} (o : Object Shape State Op Undo) (v w : 
   pub cmt_1 : (t : Name) → tx t v.config.opened ≡ None → (r : Refusal Op) → r ≡ record { criterion = 1; detail = Nothing } → Refuses o w (Cmt t) r
   cmt_1 t e r is = refuse (Cmt t) 0 r Nothing is (there_1 (tx t v.config.opened) _ e) (there_shown_1 (tx t v.config.opened) _)
 
+  -- The own calls of a transaction are a word of its body.
   abbrev pub IsComplete : Tx Op → Type 0
   IsComplete x = IsWord x.body (own_calls o x.local)
 
@@ -121,9 +124,11 @@ module _ {Shape State Op Undo : Type 0} (o : Object Shape State Op Undo) (v w : 
   pub cmt_3 : (t : Name) (x : Tx Op) (p : LocalEntry Op) → tx t v.config.opened ≡ Some x → IsComplete x → In p x.local → is_own p.mark ≡ true → (p.mark ≡ Pushed → ⊥) → (d : Detail Op) → d ≡ first_entry (filter (λ e. is_mark e.mark Unpushed) x.local) → (r : Refusal Op) → r ≡ record { criterion = 3; detail = d } → Refuses o w (Cmt t) r
   cmt_3 t x p e b i m n d shown r is = refuse (Cmt t) 2 r d is (there_more (tx t v.config.opened) _ x 1 e (b, (λ all. n (all p i m)))) (there_shown_more (tx t v.config.opened) _ x 1 e shown)
 
+  -- All own entries of a transaction are pushed.
   abbrev pub AllPushed : Tx Op → Type 0
   AllPushed x = (p : LocalEntry Op) → In p x.local → is_own p.mark ≡ true → p.mark ≡ Pushed
 
+  -- An entry of this id is committed in the shared log.
   abbrev pub StandsCommitted : ℕ → Type 0
   StandsCommitted id = (g : SharedEntry Op) × In g v.config.shared × (g.id ≡ id) × (g.committed ≡ true)
 
@@ -179,9 +184,11 @@ module _ {Shape State Op Undo : Type 0} (o : Object Shape State Op Undo) (v w : 
   pub pull_3 : (t : Name) (id : ℕ) (x : Tx Op) (g : SharedEntry Op) (a : LocalEntry Op) → tx t v.config.opened ≡ Some x → of_other t id v.config.shared ≡ Some g → In a x.local → a.id ≡ id → (r : Refusal Op) → r ≡ record { criterion = 3; detail = Nothing } → Refuses o w (Pull t id) r
   pull_3 t id x g a e h i k r is = refuse (Pull t id) 2 r Nothing is (there_more (tx t v.config.opened) _ x 1 e (there_more (of_other t id v.config.shared) _ g 0 h (λ all. all a i k))) (there_shown_more (tx t v.config.opened) _ x 1 e (there_shown_more (of_other t id v.config.shared) _ g 0 h refl))
 
+  -- No entry of a local log has this id.
   abbrev pub NotThere : ℕ → Tx Op → Type 0
   NotThere id x = (a : LocalEntry Op) → In a x.local → a.id ≢ id
 
+  -- The own entries of a transaction swap with an entry of the shared log.
   abbrev pub OwnBefore : Tx Op → SharedEntry Op → Type 0
   OwnBefore x g = (a : LocalEntry Op) → In a x.local → is_own a.mark ≡ true → model.Swaps (rules_of o v.shape) a.op g.op
 
@@ -223,6 +230,7 @@ module _ {Shape State Op Undo : Type 0} (o : Object Shape State Op Undo) (v w : 
       Before p b x.local → b.mark ≡ Pushed → (model.Swaps (rules_of o v.shape) b.op p.op → ⊥) → (d : Detail Op) → d ≡ first_swap (λ b. b.id) (λ b. o.refuting b.op p.op) (filter (λ b. is_mark b.mark Pushed) (entries_behind id x.local)) → (r : Refusal Op) → r ≡ record { criterion = 3; detail = d } → Refuses o w (Unpush t id) r
   unpush_3 t id x p b e h i m n d shown r is = refuse (Unpush t id) 2 r d is (there_more (tx t v.config.opened) _ x 1 e (there_more (at_mark id Pushed x.local) _ p 0 h (λ all. n (all b i m)))) (there_shown_more (tx t v.config.opened) _ x 1 e (there_shown_more (at_mark id Pushed x.local) _ p 0 h shown))
 
+  -- The entries after p in a local log swap with it.
   abbrev pub BehindSwap : Tx Op → LocalEntry Op → Type 0
   BehindSwap x p = (b : LocalEntry Op) → Before p b x.local → b.mark ≡ Pushed → model.Swaps (rules_of o v.shape) b.op p.op
 

@@ -63,6 +63,7 @@ module _ {Op : Type 0} where
       let same = by_key (λ (z : SharedEntry Op). z.id) G d g s.0 k.0 s.1 (eqb-true g.id id k.1 ∙ sym s.2) in
       let z : true ≡ false = sym s.3 ∙ sym (ap (λ (z : SharedEntry Op). z.committed) same) ∙ h in cc
 
+  -- An entry is pulled, and not committed in G.
   abbrev pub fallen : List (SharedEntry Op) → LocalEntry Op → Bool
   fallen G e = is_mark e.mark Pulled && not (stands_committed e.id G)
 

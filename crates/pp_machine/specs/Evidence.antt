@@ -58,10 +58,11 @@ first_differing o item_of s (e ∷ l) =
     (first_differing o item_of (o.next s (item_of e).op) l)
     (Gives (item_of e).id (o.gives s (item_of e).op))
 
--- the entries of a local log before the one of this id, and those after it
+-- the entries of a local log before the one of this id
 abbrev pub entries_before : {Op : Type 0} → ℕ → List (LocalEntry Op) → List (LocalEntry Op)
 entries_before id l = take (position_or_len (λ e. e.id == id) l) l
 
+-- the entries of a local log after the one of this id
 abbrev pub entries_behind : {Op : Type 0} → ℕ → List (LocalEntry Op) → List (LocalEntry Op)
 entries_behind id l = drop (position_or_len (λ e. e.id == id) l + 1) l
 

@@ -37,6 +37,7 @@ abbrev pub JudgesBegin : {Shape State Op Undo A : Type 0} → Object Shape State
 JudgesBegin o v t p result =
     (body : Option Tree) → Judges o v (Begin t p body) (λ _. Unit {0}) result
 
+-- the BEGIN of t with this body
 abbrev pub begin_of : {Op : Type 0} → Name → Name → Option Body → Step Op
 begin_of t p body = Begin t p (option_map tree body)
 
@@ -48,6 +49,7 @@ pub record IsAt {Op : Type 0} (c : Config Op) (t : Name) (id : ℕ) (m : Mark) (
   pub found : at_mark id m holder.local ≡ Some e
   pub here : slice_get holder.local i ≡ Some e
 
+-- an entry of t's local log, with its position, has this id and mark
 abbrev pub StandsAt : {Op : Type 0} → Config Op → Name → ℕ → Mark → ℕ × LocalEntry Op → Type 0
 StandsAt c t id m found = IsAt c t id m found.0 found.1
 
@@ -90,18 +92,19 @@ JudgesUnpull {Shape} {State} {Op} o v t id (Ok i) =
     (e : LocalEntry Op) × IsAt v.config t id Pulled i e
 JudgesUnpull o v t id (Err refusal) = Refuses o v (Unpull t id) refusal
 
--- What judging passes on to the effect if all criteria are true: the position of the entry for PUSH
--- and UNAPP, the entry for PULL.
+-- What judging a PUSH passes on to the effect: the position of the entry, and the entry.
 abbrev pub JudgesPush : {Shape State Op Undo : Type 0} → Object Shape State Op Undo →
     Seen Shape Op → Name → ℕ →
     Result (ℕ × LocalEntry Op) (Refusal Op) → Type 0
 JudgesPush o v t id result = Judges o v (Push t id) (StandsAt v.config t id Unpushed) result
 
+-- What judging an UNAPP passes on to the effect: the position of the entry.
 abbrev pub JudgesUnapp : {Shape State Op Undo : Type 0} → Object Shape State Op Undo →
     Seen Shape Op → Name → ℕ →
     Result ℕ (Refusal Op) → Type 0
 JudgesUnapp o v t id result = Judges o v (Unapp t id) (IsLastAt v.config t) result
 
+-- What judging a PULL passes on to the effect: the entry of the shared log.
 abbrev pub JudgesPull : {Shape State Op Undo : Type 0} → Object Shape State Op Undo →
     Seen Shape Op → Name → ℕ →
     Result (SharedEntry Op) (Refusal Op) → Type 0

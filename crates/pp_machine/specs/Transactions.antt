@@ -49,6 +49,7 @@ is_busy v p = list_any (λ q. q =ⁿ p) (threads_of v.opened)
 abbrev pub recoursed : {Shape Op : Type 0} → Guided Shape Op → Open Shape Op → Open Shape Op
 recoursed k x = record { name = x.name; thread = x.thread; body = k.body; local = k.local }
 
+-- the transactions with this course of t
 abbrev pub with_course : {Shape Op : Type 0} → Name → Guided Shape Op → Txs Shape Op → Txs Shape Op
 with_course t k v =
     record { names = v.names; opened = map (λ x. cond (x.name =ⁿ t) (recoursed k x) x) v.opened }
@@ -67,6 +68,7 @@ filled f [] = []
 filled f ((n, None) ∷ es) = filled f es
 filled f ((n, Some x) ∷ es) = f n x ∷ filled f es
 
+-- an open transaction of these parts
 abbrev pub open_of : {Shape Op : Type 0} → Name → Name → Option Tree →
     Shape × List (LocalEntry Op) → Open Shape Op
 open_of n p b l = record { name = n; thread = p; body = b; local = l }

@@ -55,9 +55,11 @@ there_is {A} o F x e h = subst (λ (w : Option A). FirstFalse (there w F) 0) (sy
 step_to : {Op State : Type 0} (O : Object Op State) (c d : Config Op) (a : Step Op) (ss : List (Step Op)) → Meets O c a → then c a ≡ d → RunsFrom O d ss → RunsFrom O c (a ∷ ss)
 step_to {Op} O c d a ss f e r = (f, subst (λ (w : Config Op). RunsFrom O w ss) (sym e) r)
 
+-- The entry of a local log that a PULL of g adds.
 abbrev pub pull_entry : {Op : Type 0} → SharedEntry Op → LocalEntry Op
 pull_entry g = record { id = g.id; owner = g.owner; mark = Pulled; op = g.op }
 
+-- The entry of t's local log for an item that was pushed.
 abbrev pub push_entry : {Op : Type 0} → Name → Item Op → LocalEntry Op
 push_entry t q = record { id = q.id; owner = t; mark = Pushed; op = q.op }
 
@@ -65,6 +67,7 @@ push_entry t q = record { id = q.id; owner = t; mark = Pushed; op = q.op }
 abbrev pub busy : {Op : Type 0} → List Name → List ℕ → Tx Op → List (SharedEntry Op) → List (CommittedTx Op) → Config Op
 busy N I x G F = record { names = N; ids = I; opened = x ∷ []; shared = G; done = F }
 
+-- The open transaction with these parts.
 abbrev pub the_tx : {Op : Type 0} → Name → Name → Option Tree → List (LocalEntry Op) → Tx Op
 the_tx t p b l = record { name = t; thread = p; body = b; local = l }
 
@@ -134,9 +137,11 @@ pulls {Op} O t p b N I F G A m (g ∷ H) K e rest r =
 abbrev pub log_of : {Op : Type 0} → Name → List (SharedEntry Op) → List (Item Op) → List (LocalEntry Op)
 log_of t G A = map pull_entry G ++ map (push_entry t) A
 
+-- The shared log after t has pushed the items A.
 abbrev pub shared_of : {Op : Type 0} → Name → List (SharedEntry Op) → List (Item Op) → List (SharedEntry Op)
 shared_of t G A = G ++ map (as_shared t false) A
 
+-- The used ids after the items A were applied.
 abbrev pub ids_after : {Op : Type 0} → List (Item Op) → List ℕ → List ℕ
 ids_after [] I = I
 ids_after (q ∷ A) I = ids_after A (q.id ∷ I)

@@ -23,6 +23,7 @@ use Rattle.pp_model.proofs.Names.{eq-names, names_not, names_tell, not_names}
 abbrev pub as_committed : {Op : Type 0} → SharedEntry Op → SharedEntry Op
 as_committed g = record { id = g.id; owner = g.owner; committed = true; op = g.op }
 
+-- An entry of the shared log after the commit of t.
 abbrev pub commit : {Op : Type 0} → Name → SharedEntry Op → SharedEntry Op
 commit t g = cond (g.owner =ⁿ t) (as_committed g) g
 

@@ -29,6 +29,7 @@ use Rattle.pp_model.proofs.Names.{name_or_not}
 abbrev pub remark : {Op : Type 0} → Mark → LocalEntry Op → LocalEntry Op
 remark m e = record { id = e.id; owner = e.owner; mark = m; op = e.op }
 
+-- The entry with this mark, if it has this id.
 abbrev pub mark_at : {Op : Type 0} → ℕ → Mark → LocalEntry Op → LocalEntry Op
 mark_at id m e = cond (e.id == id) (remark m e) e
 

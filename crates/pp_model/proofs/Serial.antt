@@ -36,6 +36,7 @@ pub record IsOrdered {Op State : Type 0} (O : Object Op State) (G : List (Shared
 abbrev pub items : {Op : Type 0} → List (SharedEntry Op) → List (Item Op)
 items G = map shared_item G
 
+-- The serial run, followed by the uncommitted items.
 abbrev pub target : {Op : Type 0} → List (SharedEntry Op) → List (CommittedTx Op) → List (Item Op)
 target G D = serial_items D ++ items (uncommitted G)
 

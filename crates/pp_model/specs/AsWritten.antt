@@ -10,6 +10,7 @@ use Rattle.pp_model.specs.Rules.{calls}
 use Rattle.pp_model.specs.Sound.{CommittedAfter, KeepsOrder, OwnedAsMarked, Sound, serial_items}
 use Rattle.pp_model.specs.Names.{Name}
 
+-- No element of the list occurs twice.
 abbrev pub AllDistinct : {A : Type 0} → List A → Type 0
 AllDistinct {A} xs = (x y : A) → Before x y xs → x ≢ y
 
@@ -22,6 +23,7 @@ StandsFor {Op} c t p =
     ⊎ ((d : CommittedTx Op) × In d c.done × (d.name ≡ t) × In p d.entries)
 
 module _ {Op State : Type 0} (O : Object Op State) where
+  -- A configuration is sound, word by word.
   pub record AsWritten (c : Config Op) : Type 0 where
     -- the clause on marks of a configuration
     pub marks : (x : Tx Op) → In x c.opened → (e : LocalEntry Op) → In e x.local →
@@ -65,5 +67,6 @@ module _ {Op State : Type 0} (O : Object Op State) where
     pub begun : (x : Tx Op) → In x c.opened →
         (own_items x.local ≡ []) ⊎ Begins x.body (calls O (own_items x.local))
 
+  -- A configuration is sound exactly if it is so word by word.
   abbrev pub WrittenLaw : Type 0
   WrittenLaw = (c : Config Op) → Sound O c ↔ AsWritten c

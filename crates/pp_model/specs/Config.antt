@@ -12,6 +12,7 @@ pub use Rattle.pp_core.specs.Steps.{Step, Begin, App, Unapp, Push, Unpush, Pull,
 pub use Rattle.pp_core.specs.Steps.{Note}
 use Rattle.pp_model.specs.Object.{Item}
 
+-- entries with this mark are the transaction's own
 abbrev pub is_own : Mark → Bool
 is_own Unpushed = true
 is_own Pushed = true
@@ -24,6 +25,7 @@ pub record Tx (Op : Type 0) : Type 0 where
   pub body : Option Tree
   pub local : List (LocalEntry Op)
 
+-- A configuration of the machine.
 pub record Config (Op : Type 0) : Type 0 where
   -- begun so far
   pub names : List Name
@@ -43,21 +45,27 @@ pub record Start (Op : Type 0) : Type 0 where
 abbrev pub start_with : {Op : Type 0} → Name → List (Item Op) → Start Op
 start_with tx items = record { tx = tx; items = items }
 
+-- the id and the operation of an entry of a local log
 abbrev pub item : {Op : Type 0} → LocalEntry Op → Item Op
 item e = record { id = e.id; op = e.op }
 
+-- the id and the operation of an entry of the shared log
 abbrev pub shared_item : {Op : Type 0} → SharedEntry Op → Item Op
 shared_item g = record { id = g.id; op = g.op }
 
+-- the own entries of a local log
 abbrev pub own : {Op : Type 0} → List (LocalEntry Op) → List (LocalEntry Op)
 own l = filter (λ e. is_own e.mark) l
 
+-- the items of the own entries of a local log
 abbrev pub own_items : {Op : Type 0} → List (LocalEntry Op) → List (Item Op)
 own_items l = map item (own l)
 
+-- the operations of a local log
 abbrev pub local_ops : {Op : Type 0} → List (LocalEntry Op) → List Op
 local_ops l = map (λ e. e.op) l
 
+-- the operations of a shared log
 abbrev pub shared_ops : {Op : Type 0} → List (SharedEntry Op) → List Op
 shared_ops l = map (λ g. g.op) l
 
@@ -65,10 +73,11 @@ shared_ops l = map (λ g. g.op) l
 abbrev pub as_shared : {Op : Type 0} → Name → Bool → Item Op → SharedEntry Op
 as_shared t b p = record { id = p.id; owner = t; committed = b; op = p.op }
 
--- the entry of a local log that t's APP adds, and the one that a PULL of g adds
+-- the entry of a local log that t's APP adds
 abbrev pub as_applied : {Op : Type 0} → Name → ℕ → Op → LocalEntry Op
 as_applied t id op = record { id = id; owner = t; mark = Unpushed; op = op }
 
+-- the entry of a local log that a PULL of g adds
 abbrev pub as_pulled : {Op : Type 0} → SharedEntry Op → LocalEntry Op
 as_pulled g = record { id = g.id; owner = g.owner; mark = Pulled; op = g.op }
 
@@ -89,32 +98,41 @@ abbrev pub on_log : {Op : Type 0} → Name → (List (LocalEntry Op) → List (L
     List (Tx Op) → List (Tx Op)
 on_log t f xs = on t (relog f) xs
 
+-- the transactions other than t
 abbrev pub without_tx : {Op : Type 0} → Name → List (Tx Op) → List (Tx Op)
 without_tx t xs = filter (λ x. not (x.name =ⁿ t)) xs
 
+-- the local log with this mark at the entry of this id
 abbrev pub set_mark : {Op : Type 0} → ℕ → Mark → List (LocalEntry Op) → List (LocalEntry Op)
 set_mark id m l = map (λ e. cond (e.id == id) (record e { mark = m }) e) l
 
+-- the local log without the entry of this id
 abbrev pub without_local : {Op : Type 0} → ℕ → List (LocalEntry Op) → List (LocalEntry Op)
 without_local id l = filter (λ e. not (e.id == id)) l
 
+-- the shared log without the entry of this id
 abbrev pub without_shared : {Op : Type 0} → ℕ → List (SharedEntry Op) → List (SharedEntry Op)
 without_shared id l = filter (λ g. not (g.id == id)) l
 
+-- the shared log with all entries of t committed
 abbrev pub commit_all : {Op : Type 0} → Name → List (SharedEntry Op) → List (SharedEntry Op)
 commit_all t l = map (λ g. cond (g.owner =ⁿ t) (record g { committed = true }) g) l
 
+-- the uncommitted entries of a shared log
 abbrev pub uncommitted : {Op : Type 0} → List (SharedEntry Op) → List (SharedEntry Op)
 uncommitted l = filter (λ g. not g.committed) l
 
+-- the committed entries of a shared log
 abbrev pub only_committed : {Op : Type 0} → List (SharedEntry Op) → List (SharedEntry Op)
 only_committed l = filter (λ g. g.committed) l
 
+-- a list without its last element
 abbrev pub but_last : {A : Type 0} → List A → List A
 but_last [] = []
 but_last (x ∷ []) = []
 but_last (x ∷ y ∷ l) = x ∷ but_last (y ∷ l)
 
+-- the last element of a list
 abbrev pub last : {A : Type 0} → List A → Option A
 last [] = None
 last (x ∷ []) = Some x
@@ -132,10 +150,11 @@ is_mark Pulled Unpushed = false
 is_mark Pulled Pushed = false
 is_mark Pulled Pulled = true
 
--- the entry of this id and mark, and the entry of this id in G that another transaction owns
+-- the entry of this id and mark in a local log
 abbrev pub at_mark : {Op : Type 0} → ℕ → Mark → List (LocalEntry Op) → Option (LocalEntry Op)
 at_mark id m l = find (λ e. (e.id == id) && is_mark e.mark m) l
 
+-- the entry of this id in G that another transaction owns
 abbrev pub of_other : {Op : Type 0} → Name → ℕ → List (SharedEntry Op) → Option (SharedEntry Op)
 of_other t id l = find (λ g. (g.id == id) && not (g.owner =ⁿ t)) l
 
@@ -151,7 +170,7 @@ first (Some z) =
       done = record { name = z.tx; entries = z.items } ∷ [];
     }
 
--- the effect of a PUSH, a PULL and a CMT, each with what it finds; if it finds nothing, none
+-- the effect of a PUSH of the entry that it finds; none if it finds none
 abbrev pub push_effect : {Op : Type 0} → Config Op → Name → ℕ → Option (LocalEntry Op) → Config Op
 push_effect c t id None = c
 push_effect c t id (Some e) =
@@ -160,10 +179,12 @@ push_effect c t id (Some e) =
       shared = c.shared ++ as_shared t false (item e) ∷ [];
     }
 
+-- the effect of a PULL of the entry that it finds; none if it finds none
 abbrev pub pull_effect : {Op : Type 0} → Config Op → Name → ℕ → Option (SharedEntry Op) → Config Op
 pull_effect c t id None = c
 pull_effect c t id (Some g) = record c { opened = on_log t (λ l. l ++ as_pulled g ∷ []) c.opened }
 
+-- the effect of a CMT of the transaction that it finds; none if it finds none
 abbrev pub commit_effect : {Op : Type 0} → Config Op → Name → Option (Tx Op) → Config Op
 commit_effect c t None = c
 commit_effect c t (Some x) =
@@ -205,5 +226,6 @@ abbrev pub after_from : {Op : Type 0} → Config Op → List (Step Op) → Confi
 after_from c [] = c
 after_from c (s ∷ ss) = after_from (then c s) ss
 
+-- the configuration after the steps of a run
 abbrev pub after : {Op : Type 0} → Option (Start Op) → List (Step Op) → Config Op
 after h steps = after_from (first h) steps

@@ -10,6 +10,7 @@ use Rattle.pp_model.specs.Config.{uncommitted, only_committed, first, after}
 use Rattle.pp_model.specs.Rules.{calls, StartMeets, RunsFrom}
 use Rattle.pp_model.specs.Names.{Name, ◌=ⁿ◌}
 
+-- the id is among the ids
 abbrev pub has_id : ℕ → List ℕ → Bool
 has_id i [] = false
 has_id i (j ∷ js) = (j == i) || has_id i js
@@ -61,6 +62,7 @@ bodies_of t (Cmt u ∷ ss) = bodies_of t ss
 bodies_of t (Quit u ∷ ss) = bodies_of t ss
 bodies_of t (Note u ∷ ss) = bodies_of t ss
 
+-- the first body of a list
 abbrev pub first_body : List (Option Tree) → Option Tree
 first_body [] = None
 first_body (b ∷ bs) = b
@@ -79,24 +81,30 @@ commits (Unpull u id ∷ ss) = commits ss
 commits (Quit u ∷ ss) = commits ss
 commits (Note u ∷ ss) = commits ss
 
+-- A committed transaction as the steps have it: its name, its body and its items.
 pub record Attempt (Op : Type 0) : Type 0 where
   pub name : Name
   pub body : Option Tree
   pub items : List (Item Op)
 
+-- the attempt of t, by the steps of a run
 abbrev pub attempt_of : {Op : Type 0} → List (Step Op) → Name → Attempt Op
 attempt_of ss t = record { name = t; body = first_body (bodies_of t ss); items = own_of t ss }
 
+-- the attempt of the start, if there is one
 abbrev pub start_attempts : {Op : Type 0} → Option (Start Op) → List (Attempt Op)
 start_attempts None = []
 start_attempts (Some z) = record { name = z.tx; body = None; items = z.items } ∷ []
 
+-- the committed attempts of a run, in commit order
 abbrev pub attempts : {Op : Type 0} → Option (Start Op) → List (Step Op) → List (Attempt Op)
 attempts h ss = start_attempts h ++ map (attempt_of ss) (commits ss)
 
+-- the operations of attempts, one attempt after another
 abbrev pub serial : {Op : Type 0} → List (Attempt Op) → List Op
 serial as' = ops (joined (map (λ a. a.items) as'))
 
+-- the committed transaction of an attempt
 abbrev pub committed_tx : {Op : Type 0} → Attempt Op → CommittedTx Op
 committed_tx a = record { name = a.name; entries = a.items }
 
@@ -105,6 +113,7 @@ module _ {Op State : Type 0} (O : Object Op State) where
   abbrev pub Atomic : State → Option Tree → List (Item Op) → State → Type 0
   Atomic s b w s2 = IsWord b (calls O w) × AllowedFrom O s (ops w) × (s2 ≡ state_from O s (ops w))
 
+  -- The atomic machine does these attempts, one after another.
   abbrev pub AtomicRun : State → List (Attempt Op) → State → Type 0
   AtomicRun s [] s2 = s2 ≡ s
   AtomicRun s (a ∷ l) s2 =
@@ -121,6 +130,7 @@ module _ {Op State : Type 0} (O : Object Op State) where
     pub same_state : state O (shared_ops (only_committed (after h ss).shared))
         ≡ state O (serial (attempts h ss))
 
+  -- Each accepted run is simulated by the atomic machine.
   abbrev pub SimulationLaw : Type 0
   SimulationLaw =
       (h : Option (Start Op)) (ss : List (Step Op)) → StartMeets O h → RunsFrom O (first h) ss →

@@ -35,6 +35,7 @@ OwnedAsMarked t e = ((is_own e.mark ≡ true) × (e.owner ≡ t)) ⊎ ((e.mark �
 abbrev pub serial_items : {Op : Type 0} → List (CommittedTx Op) → List (Item Op)
 serial_items D = joined (map (λ d. d.entries) D)
 
+-- the operations of the committed transactions, one transaction after another
 abbrev pub serial_ops : {Op : Type 0} → List (CommittedTx Op) → List Op
 serial_ops D = ops (serial_items D)
 
@@ -45,6 +46,7 @@ module _ {Op State : Type 0} (O : Object Op State) where
       (a b : Item Op) → Before a b xs → Stands b.id G →
       (Stands a.id G → ⊥) ⊎ StandsBefore b.id a.id G → Swaps O b.op a.op
 
+  -- A sound configuration.
   pub record Sound (c : Config Op) : Type 0 where
     -- 0 marks and owners
     pub marks : (x : Tx Op) → In x c.opened → (e : LocalEntry Op) → In e x.local →
@@ -107,6 +109,8 @@ module _ {Op State : Type 0} (O : Object Op State) where
       (k : List Op) → Allowed O (shared_ops c.shared ++ k) →
       Allowed O (serial_ops c.done ++ (shared_ops (uncommitted c.shared) ++ k))
 
+  -- After a sound configuration's serial run and uncommitted entries, all is allowed that is
+  -- allowed after its shared log.
   abbrev pub SerialLaw : Type 0
   SerialLaw = (c : Config Op) → Sound c → MayRunSerially c
 
@@ -114,5 +118,6 @@ module _ {Op State : Type 0} (O : Object Op State) where
   abbrev pub HasSerialState : Config Op → Type 0
   HasSerialState c = state O (shared_ops (only_committed c.shared)) ≡ state O (serial_ops c.done)
 
+  -- The committed entries of a sound configuration have a serial state.
   abbrev pub SameStateLaw : Type 0
   SameStateLaw = (c : Config Op) → Sound c → HasSerialState c

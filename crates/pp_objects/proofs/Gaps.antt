@@ -334,6 +334,7 @@ memory_gaps = record {
   own = memory_gap;
 }
 
+-- The gaps of sets are gaps of acts.
 abbrev pub set_gaps : GapsOf kinds.KeySet SetGap
 set_gaps = record {
   wrap = KeySet;
@@ -344,6 +345,7 @@ set_gaps = record {
   own = set_gap;
 }
 
+-- The gaps of maps are gaps of acts.
 abbrev pub map_gaps : GapsOf kinds.KeyMap MapGap
 map_gaps = record {
   wrap = KeyMap;
@@ -354,6 +356,7 @@ map_gaps = record {
   own = map_gap;
 }
 
+-- The gaps of counters are gaps of acts.
 abbrev pub counter_gaps : GapsOf kinds.Counter CounterGap
 counter_gaps = record {
   wrap = Counter;
@@ -364,6 +367,7 @@ counter_gaps = record {
   own = counter_gap;
 }
 
+-- The gaps of queues are gaps of acts.
 abbrev pub queue_gaps : GapsOf kinds.Queue QueueGap
 queue_gaps = record {
   wrap = Queue;
@@ -374,6 +378,7 @@ queue_gaps = record {
   own = queue_gap;
 }
 
+-- The gaps of stacks are gaps of acts.
 abbrev pub stack_gaps : GapsOf kinds.Stack StackGap
 stack_gaps = record {
   wrap = Stack;
@@ -384,6 +389,7 @@ stack_gaps = record {
   own = stack_gap;
 }
 
+-- The gaps of priority queues are gaps of acts.
 abbrev pub prio_gaps : GapsOf kinds.PriorityQueue PrioGap
 prio_gaps = record {
   wrap = PriorityQueue;

@@ -22,6 +22,7 @@ use Rattle.pp_objects.specs.laws.Elements.{get_set, same_some, set_own}
 use Rattle.pp_objects.specs.laws.One.{one_lawful}
 use Rattle.pp_objects.specs.laws.Places as places
 
+-- The gap of an act, at a place.
 abbrev pub gap_at : ℕ → ActGap → Gap
 gap_at p g = record { object = p; act = g }
 

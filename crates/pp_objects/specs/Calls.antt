@@ -157,7 +157,7 @@ pub record IsOpOf (kind : Kind) (c : Call) (answer : Answer) (op : Op) : Type 0 
   pub ranged : IsTrue (objects.ranged op)
 
 -- the act of a call on a memory, if a memory has the method and the result is of the form that the
--- method returns; and so for each kind
+-- method returns
 abbrev pub memory_act : Method → Call → Answer → Option Act
 memory_act methods.Read c (answers.Number value) = Some (Memory (mem.Read c.first value))
 memory_act methods.Read c answers.None = None
@@ -183,6 +183,7 @@ memory_act methods.Insert c answer = None
 memory_act methods.Take c answer = None
 memory_act methods.Least c answer = None
 
+-- the same for a set
 abbrev pub set_act : Method → Call → Answer → Option Act
 set_act methods.Add c (answers.Truth t) = Some (KeySet (set.Add c.first t))
 set_act methods.Add c answers.None = None
@@ -213,6 +214,7 @@ value_of answers.None = Some None
 value_of (answers.Number value) = Some (Some value)
 value_of (answers.Truth t) = None
 
+-- the act of a call on a map that found this value
 abbrev pub map_act_of : Method → Call → Option ℤ → Option Act
 map_act_of methods.Put c found = Some (KeyMap (map.Put c.first c.second found))
 map_act_of methods.Get c found = Some (KeyMap (map.Get c.first found))
@@ -231,9 +233,11 @@ map_act_of methods.Insert c found = None
 map_act_of methods.Take c found = None
 map_act_of methods.Least c found = None
 
+-- the act of a call on a map
 abbrev pub map_act : Method → Call → Answer → Option Act
 map_act method c answer = option_and_then (map_act_of method c) (value_of answer)
 
+-- the act of a call on a counter
 abbrev pub counter_act : Method → Call → Answer → Option Act
 counter_act methods.Add c answers.None = Some (Counter (counts.Add c.first))
 counter_act methods.Add c (answers.Number n) = None
@@ -259,6 +263,7 @@ counter_act methods.Insert c answer = None
 counter_act methods.Take c answer = None
 counter_act methods.Least c answer = None
 
+-- the act of a call on a queue
 abbrev pub queue_act : Method → Call → Answer → Option Act
 queue_act methods.Enq c answers.None = Some (Queue (queues.Enq c.first))
 queue_act methods.Enq c (answers.Number n) = None
@@ -281,6 +286,7 @@ queue_act methods.Insert c answer = None
 queue_act methods.Take c answer = None
 queue_act methods.Least c answer = None
 
+-- the act of a call on a stack
 abbrev pub stack_act : Method → Call → Answer → Option Act
 stack_act methods.StackPush c answers.None = Some (Stack (stacks.Push c.first))
 stack_act methods.StackPush c (answers.Number n) = None
@@ -303,6 +309,7 @@ stack_act methods.Insert c answer = None
 stack_act methods.Take c answer = None
 stack_act methods.Least c answer = None
 
+-- the act of a call on a priority queue
 abbrev pub prio_act : Method → Call → Answer → Option Act
 prio_act methods.Insert c answers.None = Some (PriorityQueue (prios.Insert c.first))
 prio_act methods.Insert c (answers.Number n) = None
@@ -327,6 +334,7 @@ prio_act methods.Deq c answer = None
 prio_act methods.StackPush c answer = None
 prio_act methods.StackPop c answer = None
 
+-- the act of a call on an object of this kind
 abbrev pub act_made : Kind → Call → Answer → Option Act
 act_made kinds.Memory c answer = memory_act c.method c answer
 act_made kinds.KeySet c answer = set_act c.method c answer
@@ -340,8 +348,11 @@ act_made kinds.PriorityQueue c answer = prio_act c.method c answer
 abbrev pub ranged_op : ℕ → Act → Option Op
 ranged_op object act = if is_ranged act then Some (act_at object act) else None
 
+-- the operation of a call on an object of this kind, if its numbers are in the range of records
 abbrev pub op_of_act : Kind → Call → Answer → Option Op
 op_of_act kind c answer = option_and_then (ranged_op c.object) (act_made kind c answer)
 
+-- the operation of a call on an object of this kind, if its numbers and its result are in the range
+-- of records
 abbrev pub op_made : Kind → Call → Answer → Option Op
 op_made kind c answer = if is_ranged_answer answer then op_of_act kind c answer else None

@@ -37,6 +37,7 @@ KindBears (Queue g) s = queues.Bears g s
 KindBears (Stack g) s = stacks.Bears g s
 KindBears (PriorityQueue g) s = prios.Bears g s
 
+-- two states differ by a gap, as its kind says
 abbrev pub KindDiffer : (g : ActGap) → States (kind_for g) → States (kind_for g) → Type 0
 KindDiffer (Memory g) s t = memories.Differ g s t
 KindDiffer (KeySet g) s t = sets.Differ g s t
@@ -55,10 +56,11 @@ abbrev pub OneDiffer : ActGap → ObjectState → ObjectState → Type 0
 OneDiffer g s t = (v w : States (kind_for g)) × (s ≡ state_of (kind_for g) v)
     × (t ≡ state_of (kind_for g) w) × KindDiffer g v w
 
--- so it is of the object at its place, and every other object is one in both
+-- the object at the place of a gap bears it
 abbrev pub Bears : Gap → List ObjectState → Type 0
 Bears g ss = (s : ObjectState) → slice_get ss g.object ≡ Some s → OneBears g.act s
 
+-- the objects differ by a gap at its place, and nowhere else
 abbrev pub Differ : Gap → List ObjectState → List ObjectState → Type 0
 Differ g ss ts = (s t : ObjectState) × (slice_get ss g.object ≡ Some s)
     × (ts ≡ slice_set ss g.object t) × OneDiffer g.act s t

@@ -34,6 +34,7 @@ abbrev pub gives_in : Object Kind ObjectState Act Undo → Option ObjectState �
 gives_in o None a = NoAnswer
 gives_in o (Some s) a = o.gives s a
 
+-- the undo value that the object at a place keeps for an act
 abbrev pub kept_in : Object Kind ObjectState Act Undo → Option ObjectState → Act → Undo
 kept_in o None a = Nothing
 kept_in o (Some s) a = o.upkeep.kept s a

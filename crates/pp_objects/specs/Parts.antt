@@ -43,6 +43,7 @@ act_label (Queue a) = record { form = queues.form_of a; number = queues.number_o
 act_label (Stack a) = record { form = stacks.form_of a; number = stacks.number_of a }
 act_label (PriorityQueue a) = record { form = prios.form_of a; number = prios.number_of a }
 
+-- what gates read of an operation: its act's form and number
 abbrev pub label_of : Op → Label
 label_of op = act_label op.act
 

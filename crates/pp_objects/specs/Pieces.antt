@@ -7,10 +7,11 @@ use Rattle.pp_objects.specs.declared.pieces.Piece.{Piece}
 use Rattle.pp_objects.specs.declared.states.ObjectState.{ObjectState}
 use Rattle.pp_objects.specs.declared.states.ObjectState.TheVariants as states
 
--- a number alone, and a number at a key
+-- the piece with a number alone
 abbrev pub alone : ℤ → Piece
 alone value = record { key = None; value = value }
 
+-- the piece with a number at a key
 abbrev pub at_key : ℤ × ℤ → Piece
 at_key entry = record { key = Some entry.0; value = entry.1 }
 
@@ -30,5 +31,6 @@ abbrev pub pieces_in : Option ObjectState → List Piece
 pieces_in None = []
 pieces_in (Some s) = pieces_of s
 
+-- the printed pieces of the object at a place
 abbrev pub pieces_at : List ObjectState → ℕ → List Piece
 pieces_at ss p = pieces_in (slice_get ss p)

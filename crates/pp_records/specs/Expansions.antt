@@ -15,17 +15,19 @@ use Rattle.pp_records.specs.Records as records
 use Rattle.pp_records.specs.Fronts.{Front, has_name, is_mem, mark_of, opened_at, with_section}
 use Rattle.pp_records.specs.Fronts.{with_source, with_sources, without_source}
 
--- Below, G is the shared log, l is the local log L of the transaction t, o is an object, and place
--- is the object of an operation.
+-- the entries of a local log
 abbrev pub LocalLog : Type 0 → Type 0
 LocalLog Op = List (LocalEntry Op)
 
+-- the entries of the shared log
 abbrev pub SharedLog : Type 0 → Type 0
 SharedLog Op = List (SharedEntry Op)
 
+-- a list of steps
 abbrev pub Steps : Type 0 → Type 0
 Steps Op = List (Step Op)
 
+-- the object of each operation
 abbrev pub Placing : Type 0 → Type 0
 Placing Op = Op → ℕ
 
@@ -129,6 +131,7 @@ commit_steps Optimistic l t = pushall t l ++ Cmt t ∷ []
 commit_steps Hardware l t = pushall t l ++ Cmt t ∷ []
 commit_steps Dependent l t = pushall t l ++ Cmt t ∷ []
 
+-- these steps for the local log of a transaction that is there; else the one step
 abbrev pub steps_of_open : {Op : Type 0} → Option (Tx Op) → Step Op → (LocalLog Op → Steps Op) →
     Steps Op
 steps_of_open None alone steps = alone ∷ []
@@ -159,6 +162,7 @@ expand place style f c (records.Publish t) = where_open c t (Note t) λ l. Note 
 expand place style f c (records.DropSource t source) =
     where_open c t (Note t) λ l. Note t ∷ unpulls t source l
 
+-- this change for the local log of a transaction that is there; else the front's state
 abbrev pub front_of_open : {Op : Type 0} → Option (Tx Op) → Front → (LocalLog Op → Front) → Front
 front_of_open None f changed = f
 front_of_open (Some x) f changed = changed x.local
@@ -216,6 +220,7 @@ IsRecorded Optimistic = Unit {0}
 IsRecorded Hardware = Unit {0}
 IsRecorded Dependent = Unit {0}
 
+-- the style has refreshes
 abbrev pub HasRefreshes : Style → Type 0
 HasRefreshes Rules = ⊥
 HasRefreshes Boosted = ⊥
@@ -223,6 +228,7 @@ HasRefreshes Optimistic = Unit {0}
 HasRefreshes Hardware = ⊥
 HasRefreshes Dependent = ⊥
 
+-- the style has sections
 abbrev pub HasSections : Style → Type 0
 HasSections Rules = ⊥
 HasSections Boosted = ⊥
@@ -230,6 +236,7 @@ HasSections Optimistic = ⊥
 HasSections Hardware = Unit {0}
 HasSections Dependent = ⊥
 
+-- the style has sources
 abbrev pub HasSources : Style → Type 0
 HasSources Rules = ⊥
 HasSources Boosted = ⊥

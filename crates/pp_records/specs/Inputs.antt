@@ -66,6 +66,7 @@ IsRunReport {Op = Op} setting (Some h) rs r =
     × IsRun (setting h).object (setting h).translation (setting h).start rs run
     × IsVerdict (setting h).object (setting h).start (bare run) v × IsReportOf (setting h) run v r
 
+-- the report is the fault, if there is one, and else that of the run
 abbrev pub IsReportBehind : {H F R Op State Cause : Type 0} → (H → Setting F R Op State) →
     Option (ℕ × Cause) → Scan H R Cause → Report Op State Cause → Type 0
 IsReportBehind setting (Some fault) sc r = r ≡ Faulty fault.0 fault.1

@@ -6,6 +6,7 @@ use Rattle.pp_model.specs.Names.{Name}
 use Rattle.pp_records.specs.declared.run_record.RunRecord.{RunRecord as RecordOf}
 use Rattle.pp_records.specs.declared.run_record.RunRecord.TheVariants as written
 
+-- A record of a run after its header.
 pub data RunRecord (Op : Type 0) : Type 0 where
   -- a step of the machine: any of them in style rules, and a begin in every style
   Plain : (step : Step Op) → RunRecord Op

@@ -9,9 +9,11 @@ pub record Lined (A : Type 0) : Type 0 where
   pub line : ℕ
   pub what : A
 
+-- steps with the lines of their records
 abbrev pub LinedSteps : Type 0 → Type 0
 LinedSteps Op = List (Lined (Step Op))
 
+-- records with their lines
 abbrev pub Records : Type 0 → Type 0
 Records R = List (Lined R)
 
@@ -43,9 +45,11 @@ after_record T p r =
       config = after_from p.config (steps_at T p r);
     }
 
+-- the elements, all on one line
 abbrev pub on_line : {A : Type 0} → ℕ → List A → List (Lined A)
 on_line line ss = map (λ s. record { line = line; what = s }) ss
 
+-- the elements without their lines
 abbrev pub bare : {A : Type 0} → List (Lined A) → List A
 bare ss = map (λ s. s.what) ss
 

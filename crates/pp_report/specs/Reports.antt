@@ -55,10 +55,11 @@ abbrev pub rejected_line : ℕ → ℕ → Rule → ℕ → List ℕ
 rejected_line step at_line rule criterion =
     line (rejected_place step at_line ++ rejected_rule rule criterion)
 
--- operations, each after a space
+-- an operation after a space
 abbrev pub spaced_bytes : Objects → Op → List ℕ
 spaced_bytes catalog op = codes " " ++ op_bytes catalog op
 
+-- operations, each after a space
 abbrev pub ops_bytes : Objects → List Op → List ℕ
 ops_bytes catalog ops = flat_map (spaced_bytes catalog) ops
 

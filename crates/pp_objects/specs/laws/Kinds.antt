@@ -54,6 +54,7 @@ States kinds.Queue = List ℤ
 States kinds.Stack = List ℤ
 States kinds.PriorityQueue = List ℤ
 
+-- the operations of each kind
 abbrev pub Ops : Kind → Type 0
 Ops kinds.Memory = MemOp
 Ops kinds.KeySet = SetOp
@@ -63,6 +64,7 @@ Ops kinds.Queue = QueueOp
 Ops kinds.Stack = StackOp
 Ops kinds.PriorityQueue = PrioOp
 
+-- the undo values of each kind: only a memory keeps some
 abbrev pub Undos : Kind → Type 0
 Undos kinds.Memory = Undo
 Undos k = Unit {0}
@@ -87,7 +89,7 @@ lawful kinds.Queue = fifo_lawful
 lawful kinds.Stack = stack_lawful
 lawful kinds.PriorityQueue = prio_lawful
 
--- Its states, operations and undo values among those of all kinds.
+-- a state of a kind, among those of all kinds
 abbrev pub state_of : (k : Kind) → States k → ObjectState
 state_of kinds.Memory s = states.Memory s
 state_of kinds.KeySet s = states.KeySet s
@@ -97,6 +99,7 @@ state_of kinds.Queue s = states.Queue s
 state_of kinds.Stack s = states.Stack s
 state_of kinds.PriorityQueue s = states.PriorityQueue s
 
+-- an operation of a kind, as an act
 abbrev pub act_of : (k : Kind) → Ops k → Act
 act_of kinds.Memory a = Memory a
 act_of kinds.KeySet a = KeySet a
@@ -106,10 +109,12 @@ act_of kinds.Queue a = Queue a
 act_of kinds.Stack a = Stack a
 act_of kinds.PriorityQueue a = PriorityQueue a
 
+-- an undo value of a kind, among those of all kinds
 abbrev pub undo_as : (k : Kind) → Undos k → Undo
 undo_as kinds.Memory u = u
 undo_as k u = Nothing
 
+-- an undo value of all kinds, as one of this kind
 abbrev pub undo_from : (k : Kind) → Undo → Undos k
 undo_from kinds.Memory u = u
 undo_from k u = tt
