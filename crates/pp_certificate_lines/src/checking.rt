@@ -18,12 +18,12 @@ use pp_objects::{ObjectStates, Objects, Op};
 use std::alloc::Global;
 use std::sync::ledger::Ledger;
 
-/// What the lines so far of an input lead to, as those of a certificate.
+/// What the lines of a certificate so far lead to.
 #[derive(Drop)]
 pub enum Checking {
-    /// Only blank lines.
+    /// All lines so far are blank.
     Before(Checker<Objects>),
-    /// The objects of the first line that is not blank, and what the lines lead to.
+    /// The objects that the first line names, and what the lines so far lead to.
     Within(Catalog, Checker<Objects>),
 }
 
@@ -71,7 +71,7 @@ fn take_first<L: Ledger>(
     }
 }
 
-/// Takes a line behind the first one.
+/// Takes a line after the first one.
 #[tactic(auto, using(pp_certificate_checker::proofs::Costs::cost_small))]
 fn take_later<L: Ledger>(
     alloc: Global,
@@ -118,7 +118,7 @@ fn take_any<L: Ledger>(
     }
 }
 
-/// What lines show that name objects.
+/// What the lines of a certificate over these objects show.
 fn close_over<L: Ledger>(
     catalog: Catalog,
     checker: Checker<Objects>,
@@ -139,7 +139,7 @@ fn close_over<L: Ledger>(
 }
 
 impl Checking {
-    /// No line.
+    /// A checking that has taken no line.
     pub fn new(alloc: Global) -> Checking
         ensures fresh { result ≡ Before (record { stage = Fresh; lines = 0 }) }
         ensures covers { Covers [] result }
@@ -158,7 +158,7 @@ impl Checking {
         }
     }
 
-    /// Takes a line, or says why it is refused. The only error is out of memory.
+    /// Takes a line, or returns why it refuses the line. The only error is out of memory.
     pub fn take_text<L: Ledger>(
         self,
         alloc: Global,
@@ -177,8 +177,8 @@ impl Checking {
         take_any(alloc, self, text, ticks)
     }
 
-    /// What the lines show, with their objects, if a serial number is among them. The only error is
-    /// out of memory.
+    /// What the lines show, with their objects, if one of the lines is a serial number. The only
+    /// error is out of memory.
     pub fn close<L: Ledger>(
         self,
         ticks: &mut Ticks<L>,

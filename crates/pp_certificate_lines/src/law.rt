@@ -1,8 +1,8 @@
-//! What is read back from the lines of a certificate. Each is a fact of the definitions, and does
-//! nothing.
+//! Laws of reading back the lines of a certificate. Each law is a fact about the definitions: its
+//! body is empty.
 ghost use Rattle.pp_certificate_lines.specs.Laws.{AcceptedLaw, SpellsLaw};
 
-/// Each line that is written is read in its place as what it says.
+/// Each line that is written at its place is read there as what it says.
 pub fn spells_law()
     ensures { SpellsLaw }
 {}

@@ -1,4 +1,4 @@
-//! Certificates of exchanges: writing their lines, reading them, and taking the lines of an input
+//! Certificates of exchanges: writing and reading their lines, and checking the lines of an input
 //! as those of a certificate.
 #![tactic(auto)]
 

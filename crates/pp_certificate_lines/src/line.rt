@@ -1,5 +1,5 @@
-//! The lines of a certificate, without a line end. The only error of each is that memory was
-//! refused.
+//! The lines of a certificate, without a line end. The only error of each function is out of
+//! memory.
 ghost use Rattle.std.specs.Prelude.{◌≡◌, IfOk};
 ghost use Rattle.serde_json.specs.View.{view};
 ghost use Rattle.pp_core.specs.Catalogs.{HasNames};
@@ -53,7 +53,7 @@ pub fn entry_line(alloc: Global, catalog: &Catalog, item: &Item<Op>) -> Result<T
     ensures text { IfOk result (λ text. text ≡ entry_bytes catalog.now item.now) }
     ensures one_line { IfOk result IsOneLine }
 {
-    // It is here for what its clauses say of each catalog.
+    // `len` is called for its clauses, which are true of each catalog.
     let _named = catalog.len();
     let value = item_value(alloc, catalog, item)?;
     line_of(alloc, &value)

@@ -19,10 +19,10 @@ use pp_objects::Op;
 use serde_json::Value;
 use std::alloc::Global;
 
-/// The most positions of a line.
+/// A line has at most this many positions.
 const MOST_POSITIONS: usize = 1000;
 
-/// What was read, or nothing if there was a fault. The only error is out of memory.
+/// The value that was read, or nothing if there was a fault. The only error is out of memory.
 fn found<X: Drop>(read: Result<X, RecordFault>) -> Result<Option<X>, OutOfMemory>
     ensures { Finds read result }
 {
@@ -50,7 +50,7 @@ fn found<X: Drop>(read: Result<X, RecordFault>) -> Result<Option<X>, OutOfMemory
     }
 }
 
-/// The object that the line is, or nothing if it is none.
+/// The JSON object that the line is, or nothing if it is none.
 #[tactic(auto, using(crate::proofs::Parsed::found_is))]
 fn object_found(alloc: Global, line: &[u8]) -> Result<Option<Value>, OutOfMemory>
     ensures { IfOk result (λ value. option_map view value ≡ found (object_of line.now)) }
@@ -58,7 +58,7 @@ fn object_found(alloc: Global, line: &[u8]) -> Result<Option<Value>, OutOfMemory
     found(object_on(alloc, line))
 }
 
-/// The objects that the value names, or nothing if they are not of their form.
+/// The objects that the value names, or nothing if it has another form.
 #[tactic(auto, using(crate::proofs::Parsed::same_found))]
 fn objects_found(alloc: Global, value: &Value) -> Result<Option<Catalog>, OutOfMemory>
     ensures { IfOk result (λ catalog. catalog ≡ found (catalog_of (view value.now))) }
@@ -66,7 +66,7 @@ fn objects_found(alloc: Global, value: &Value) -> Result<Option<Catalog>, OutOfM
     found(catalog_in(alloc, value))
 }
 
-/// The operation with its id that the value is, or nothing if it is none.
+/// The operation that the value is, with its id, or nothing if it is none.
 #[tactic(auto, using(crate::proofs::Parsed::same_found))]
 fn item_found(catalog: &Catalog, value: &Value) -> Result<Option<Item<Op>>, OutOfMemory>
     ensures item { IfOk result (λ item. item ≡ found (item_of catalog.now (view value.now))) }
@@ -84,8 +84,8 @@ fn number_in(value: &Value) -> Option<u32>
     id_that_is(n)
 }
 
-/// The objects that the first line of a certificate names, if it is of this form. The only error is
-/// out of memory.
+/// The objects that the first line of a certificate names, or nothing if the line has another
+/// form. The only error is out of memory.
 #[tactic(auto, unfolding(crate::specs::Reading::objects_on))]
 pub fn read_objects(alloc: Global, line: &[u8]) -> Result<Option<Catalog>, OutOfMemory>
     ensures { IfOk result (λ catalog. catalog ≡ objects_on line.now) }
@@ -102,7 +102,8 @@ pub fn read_objects(alloc: Global, line: &[u8]) -> Result<Option<Catalog>, OutOf
     }
 }
 
-/// These values as whole numbers from 0 to 999,999,999, or nothing if one is none.
+/// These values as whole numbers from 0 to 999,999,999, or nothing if one of them is no such
+/// number.
 #[tactic(auto, using(crate::proofs::Parsed::walk))]
 fn numbers_among(alloc: Global, values: &[Value]) -> Result<Option<Positions>, OutOfMemory>
     ensures numbers { IfOk result (λ list. list ≡ numbers_of (items_view values.now)) }
@@ -133,7 +134,7 @@ fn row_in(alloc: Global, value: &Value) -> Result<Option<Positions>, OutOfMemory
     }
 }
 
-/// What a line says that has this row.
+/// What a line with this row says.
 fn row_said(alloc: Global, row: &Value) -> Result<Line<Kinds, Op>, OutOfMemory>
     ensures line { IfOk result (λ line. line ≡ line_of Exchanges (row_of (view row.now))) }
     ensures readable { IfOk result (IsReadable objects) }
@@ -144,7 +145,7 @@ fn row_said(alloc: Global, row: &Value) -> Result<Line<Kinds, Op>, OutOfMemory>
     }
 }
 
-/// What a line says that has this serial number.
+/// What a line with this serial number says.
 fn serial_said(serial: &Value) -> Line<Kinds, Op>
     ensures line { result ≡ line_of Serial (number_of (view serial.now)) }
     ensures readable { IsReadable objects result }
@@ -155,7 +156,7 @@ fn serial_said(serial: &Value) -> Line<Kinds, Op>
     }
 }
 
-/// What a line says that has neither: an entry.
+/// What a line says that has neither a row nor a serial number: an entry.
 fn item_said(catalog: &Catalog, value: &Value) -> Result<Line<Kinds, Op>, OutOfMemory>
     ensures line { IfOk result (λ line.
         line ≡ line_of Entry (found (item_of catalog.now (view value.now)))) }
@@ -167,8 +168,8 @@ fn item_said(catalog: &Catalog, value: &Value) -> Result<Line<Kinds, Op>, OutOfM
     }
 }
 
-/// Reads a line behind the first one, which is not blank, over the objects that the first one
-/// names. The only error is out of memory.
+/// Reads a line after the first one. The line is not blank, and its objects are those that the
+/// first line names. The only error is out of memory.
 pub fn read_line(
     alloc: Global,
     catalog: &Catalog,

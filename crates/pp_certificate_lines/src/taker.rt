@@ -1,4 +1,4 @@
-//! `Checking` as what takes the lines of an input.
+//! `Checking` as a taker of the lines of an input.
 use crate::checking::Checking;
 use pp_certificate_checker::Refusal;
 use pp_core::Ticks;
@@ -7,12 +7,12 @@ use pp_input_reader::{Cause, Stop, TakesLines};
 use std::alloc::Global;
 use std::sync::ledger::Ledger;
 
-/// Why an input is no certificate that holds.
+/// Why an input is no certificate, or is one that is refused.
 #[derive(Clone, Copy, Debug, PartialEq, Eq)]
 pub enum CheckFault {
-    /// It passes a limit.
+    /// The input exceeds a limit.
     Cause(Cause),
-    /// A line is not taken.
+    /// A line is refused.
     Refusal(Refusal),
 }
 

@@ -7,7 +7,7 @@ use pp_core::OutOfMemory;
 use serde_json::Value;
 use std::alloc::Global;
 
-/// Each of these positions as a number of JSON.
+/// These positions as JSON numbers.
 pub(crate) fn position_values(alloc: Global, list: &[u32]) -> Result<Vec<Value>, OutOfMemory>
     ensures { IfOk result (λ values. map view values.items ≡ map position_value list.now) }
 {

@@ -4,7 +4,8 @@ ghost use Rattle.std.specs.Prelude.{◌≡◌};
 use pp_input::{Failed, Sink, SinkFault, Source};
 use std::io::{Read, Write};
 
-/// A reader as a source. It has left what the reader has left, if the reader says it.
+/// A reader as a source. The source has left what the reader has left, if the reader's model has
+/// it.
 #[derive(Drop)]
 pub struct StdSource<R: Read + Drop> {
     stream: R,
@@ -44,8 +45,8 @@ impl<R: Read + Drop> Source for StdSource<R> {
     }
 }
 
-/// A writer as a sink. It holds what the writer holds, if the writer says it. It does not say what
-/// was sent on, and it never reports out of memory.
+/// A writer as a sink. The sink holds what the writer holds, if the writer's model has it. It does
+/// not say what was sent on, and it never reports out of memory.
 #[derive(Drop)]
 pub struct StdSink<W: Write + Drop> {
     stream: W,

@@ -72,7 +72,7 @@ fn status_of(
     run_with_counter::<Brand, _, _>(alloc, words, source, sink, Blank::new(1))
 }
 
-/// The status of a command of one argument on an input, and what the sink holds.
+/// The status of a command of one argument on an input, and the output in the sink.
 fn answered(
     alloc: Global,
     command: &[u8],
@@ -85,7 +85,7 @@ fn answered(
     Ok((status, sink.held().to_vec(alloc)?))
 }
 
-/// The same for bytes that come in pieces of one byte, or in whole pieces.
+/// The status and the output for bytes that come one by one, or all at once.
 fn answered_bytes(
     alloc: Global,
     command: &[u8],
@@ -99,12 +99,12 @@ fn answered_bytes(
     answered(alloc, command, source, sink)
 }
 
-/// The same for `certify`.
+/// The status and the output of `certify` for bytes.
 fn certified_bytes(alloc: Global, input: Vec<u8>, by_one: bool) -> Result<(Status, Vec<u8>), Fail> {
     answered_bytes(alloc, b"certify", input, by_one)
 }
 
-/// The same for `expand`.
+/// The status and the output of `expand` for bytes.
 fn expanded_bytes(alloc: Global, input: Vec<u8>, by_one: bool) -> Result<(Status, Vec<u8>), Fail> {
     answered_bytes(alloc, b"expand", input, by_one)
 }
@@ -204,7 +204,7 @@ fn a_run_is_judged_however_many_steps_it_has(rt: HostRuntime) -> Result<(), Fail
     Ok(())
 }
 
-/// A call of the open transaction after those many steps, with a result that is not right.
+/// A call of the open transaction after this many steps, with a wrong result.
 const WRONG_RESULT: &[u8] =
     br#"{"step":"op","tx":"t629","id":629,"on":"c","call":"get","args":[],"result":7}"#;
 
@@ -259,8 +259,8 @@ fn printed_steps_are_a_run_of_themselves(rt: HostRuntime) -> Result<(), Fail> {
     Ok(())
 }
 
-/// Asserts that the steps of a row have the verdict of its records, and the same report if they are
-/// accepted.
+/// Asserts that the steps of a row have the verdict of its records, and the same report if the row
+/// is accepted.
 fn assert_same_verdict(rt: &impl Abort, alloc: Global, row: &Row) -> Result<(), Fail> {
     let answer = certified_bytes(alloc, input_of(alloc, row)?, false)?;
     let again = certified_bytes(alloc, row.report.to_vec(alloc)?, false)?;

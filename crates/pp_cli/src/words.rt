@@ -8,7 +8,7 @@ fn zeros(alloc: Global, size: usize) -> Result<Vec<u8>, AllocError> {
     vec![in alloc; 0u8; size]
 }
 
-/// The argument at a place, if there is one. The buffer is doubled until the argument fits.
+/// The argument at a position, if there is one. The buffer is doubled until the argument fits.
 fn word_at<E: Env>(alloc: Global, env: &E, place: usize) -> Result<Option<Vec<u8>>, OutOfMemory> {
     let mut room = 256usize;
     for _ in 0..usize::BITS {

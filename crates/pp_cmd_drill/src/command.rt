@@ -1,4 +1,4 @@
-//! The command: the run of a number of transactions is made, certified and summed up.
+//! The command: makes the run of a number of transactions, certifies it and prints a summary.
 ghost use Rattle.std.specs.Prelude.{◌≡◌, ◌≤◌, ◌+◌, length, None, IfOk, OnOk};
 ghost use Rattle.pp_core.specs.declared.status.Status.TheVariants as statuses;
 ghost use Rattle.pp_model.specs.Config.{first};
@@ -35,8 +35,8 @@ fn first_machine(alloc: Global, catalog: &Catalog) -> Result<Tracked<Objects>, O
     Tracked::new(alloc, machine)
 }
 
-/// The machine behind the steps of the run, and what reading its lines would count. The lines are
-/// not made: their steps are.
+/// The machine after the steps of the run, and what reading its lines would count. The steps are
+/// made directly, without the lines.
 fn machine_behind<L: Ledger>(
     alloc: Global,
     n: u32,
@@ -52,7 +52,7 @@ fn machine_behind<L: Ledger>(
     let catalog = drill_catalog(alloc)?;
     let steps = drill_steps(alloc, n)?;
     let machine = first_machine(alloc, &catalog)?;
-    // Each of these steps meets its criteria, so that none halts the machine.
+    // Each of these steps meets its criteria, so the machine takes all of them.
     let (machine, _halt) = do_steps(machine, &steps, ticks)?;
     let count = machine.count();
     let header = Header {
@@ -68,7 +68,7 @@ fn machine_behind<L: Ledger>(
     Ok((tally, machine.into_machine()))
 }
 
-/// The text of the command, by the machine behind the run.
+/// The text of the command, from the machine after the run.
 fn text_of_run<L: Ledger>(
     alloc: Global,
     n: u32,
@@ -96,8 +96,8 @@ fn text_of_run<L: Ledger>(
     )
 }
 
-/// The status and the output of `drill` for n transactions: their run is certified as its text
-/// would be, which is not made. The only error is out of memory.
+/// The status and the output of `drill` for n transactions. Their run is certified as if it were
+/// read from its text, but the text is not made. The only error is out of memory.
 pub fn drill<L: Ledger>(
     alloc: Global,
     n: u32,

@@ -1,5 +1,5 @@
-//! The command `drill N`: the run that it makes, the laws that this is accepted and read back, and
-//! what it prints of it.
+//! The command `drill N`: the run that it makes, the laws that this run is accepted and read back,
+//! and the report that it prints.
 #![tactic(auto)]
 
 mod command;

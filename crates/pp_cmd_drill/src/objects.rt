@@ -9,7 +9,7 @@ use crate::transaction::name_of_text;
 use pp_core::{Catalog, Kind, OutOfMemory};
 use std::alloc::Global;
 
-/// Adds an object of another name.
+/// Adds an object with a name that no other object has.
 fn add_object(catalog: &mut Catalog, name: &[u8], kind: Kind) -> Result<(), OutOfMemory>
     requires name { IsName name.now }
     requires few { length catalog.old < MOST_OBJECTS }

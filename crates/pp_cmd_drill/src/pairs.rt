@@ -24,7 +24,7 @@ fn add_all<const N: usize>(
     Ok(())
 }
 
-/// Adds the pull of a first transaction, if there are pairs before it.
+/// Adds the PULL of the first transaction of a pair, if there are pairs before it.
 fn add_pull(steps: &mut Vec<Step<Op>>, before: u32, a: &Transaction) -> Result<(), OutOfMemory>
     requires numbered { IsNumbered a.now }
     requires number { a.now.number ≡ 2 * before + 1 }
@@ -36,7 +36,7 @@ fn add_pull(steps: &mut Vec<Step<Op>>, before: u32, a: &Transaction) -> Result<(
     add_all(steps, [pull(before, a)])
 }
 
-/// Adds the pair behind `before` pairs.
+/// Adds the pair that comes after `before` pairs.
 fn add_pair(alloc: Global, steps: &mut Vec<Step<Op>>, before: u32) -> Result<(), OutOfMemory>
     requires { 2 * before + 2 ≤ 20_000 }
     ensures { OnOk result (Adds steps.old.items steps.new.items
@@ -51,7 +51,7 @@ fn add_pair(alloc: Global, steps: &mut Vec<Step<Op>>, before: u32) -> Result<(),
     add_all(steps, endings(&a, &b))
 }
 
-/// Adds a transaction alone behind `before` pairs.
+/// Adds a single transaction after `before` pairs.
 fn add_unpaired(alloc: Global, steps: &mut Vec<Step<Op>>, before: u32) -> Result<(), OutOfMemory>
     requires { 2 * before + 1 ≤ 20_000 }
     ensures { OnOk result (Adds steps.old.items steps.new.items
@@ -64,7 +64,7 @@ fn add_unpaired(alloc: Global, steps: &mut Vec<Step<Op>>, before: u32) -> Result
     add_all(steps, ending(&a))
 }
 
-/// Adds the transaction that is left behind the pairs, if one is.
+/// Adds the single transaction after the pairs, if the number of transactions is odd.
 fn add_left_over(alloc: Global, steps: &mut Vec<Step<Op>>, n: u32) -> Result<(), OutOfMemory>
     requires { n ≤ 20_000 }
     ensures { OnOk result (Adds steps.old.items steps.new.items (left_over (n % 2) (n / 2))) }
@@ -75,7 +75,7 @@ fn add_left_over(alloc: Global, steps: &mut Vec<Step<Op>>, n: u32) -> Result<(),
     add_unpaired(alloc, steps, n / 2)
 }
 
-/// The first pairs.
+/// The steps of the first pairs.
 #[tactic(auto, using(crate::proofs::Listing::one_more_pair))]
 fn pairs_of(alloc: Global, count: u32) -> Result<Vec<Step<Op>>, OutOfMemory>
     requires { 2 * count ≤ 20_000 }

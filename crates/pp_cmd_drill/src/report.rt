@@ -1,4 +1,5 @@
-//! The text of the command: its own line, and of the report of the run the first and the states.
+//! The text of the command: a line of its own, and from the report of the run the first line and
+//! the states.
 ghost use Rattle.std.specs.Prelude.{◌≡◌, IfOk};
 ghost use Rattle.pp_text.specs.Texts.{AreStatesOf};
 ghost use Rattle.pp_cmd_drill.specs.Drill.{drill_catalog};

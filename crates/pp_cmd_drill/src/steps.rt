@@ -85,7 +85,7 @@ fn cmt(t: &Transaction) -> Step<Op>
     Step::Cmt { tx: t.name }
 }
 
-/// The first transaction of a pair begins.
+/// The BEGIN of the first transaction of a pair.
 pub(crate) fn begin_first(a: &Transaction) -> Step<Op>
     requires { IsNumbered a.now }
     ensures { meaning result ≡ Begin (name_of a.now.number) first_thread None }
@@ -97,7 +97,7 @@ pub(crate) fn begin_first(a: &Transaction) -> Step<Op>
     }
 }
 
-/// The second begins.
+/// The BEGIN of the second transaction of a pair.
 pub(crate) fn begin_second(b: &Transaction) -> Step<Op>
     requires { IsNumbered b.now }
     ensures { meaning result ≡ Begin (name_of b.now.number) second_thread None }
@@ -109,8 +109,8 @@ pub(crate) fn begin_second(b: &Transaction) -> Step<Op>
     }
 }
 
-/// The first transaction pulls the write of the pair before its own, if there are `before` pairs
-/// before it.
+/// The PULL by which the first transaction of a pair sees the write of the pair before. There are
+/// `before` pairs before it, at least one.
 pub(crate) fn pull(before: u32, a: &Transaction) -> Step<Op>
     requires numbered { IsNumbered a.now }
     requires some { 1 ≤ before }
@@ -121,7 +121,7 @@ pub(crate) fn pull(before: u32, a: &Transaction) -> Step<Op>
     Step::Pull { tx: a.name, id }
 }
 
-/// The operations of the first transaction of a pair, behind `before` pairs.
+/// The operations of the first transaction of a pair, after `before` pairs.
 pub(crate) fn first_apps(before: u32, a: &Transaction) -> [Step<Op>; 4]
     requires numbered { IsNumbered a.now }
     requires few { before < 20_000 }
@@ -135,7 +135,7 @@ pub(crate) fn first_apps(before: u32, a: &Transaction) -> [Step<Op>; 4]
     ]
 }
 
-/// Those of the second.
+/// The operations of the second transaction of a pair.
 pub(crate) fn second_apps(b: &Transaction) -> [Step<Op>; 2]
     requires { IsNumbered b.now }
     ensures { map meaning result ≡ second_apps b.now.number }
@@ -143,7 +143,7 @@ pub(crate) fn second_apps(b: &Transaction) -> [Step<Op>; 2]
     [app(b, 1, add(b.number)), app(b, 2, ask(b.number))]
 }
 
-/// How a pair ends.
+/// The steps that end a pair.
 pub(crate) fn endings(a: &Transaction, b: &Transaction) -> [Step<Op>; 8]
     requires first { IsNumbered a.now }
     requires second { IsNumbered b.now }
@@ -161,7 +161,7 @@ pub(crate) fn endings(a: &Transaction, b: &Transaction) -> [Step<Op>; 8]
     ]
 }
 
-/// How a transaction alone ends.
+/// The steps that end a single transaction.
 pub(crate) fn ending(a: &Transaction) -> [Step<Op>; 5]
     requires { IsNumbered a.now }
     ensures { map meaning result ≡ ending a.now.number }

@@ -33,7 +33,7 @@ pub(crate) fn first_thread() -> Name
     name_of_text(b"p1")
 }
 
-/// The thread of the second.
+/// The thread of the second transaction of each pair.
 #[tactic(auto, using(crate::proofs::Stating::second_is_name))]
 pub(crate) fn second_thread() -> Name
     ensures { result ≡ second_thread }

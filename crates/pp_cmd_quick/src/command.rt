@@ -1,4 +1,4 @@
-//! The command: an input is decided, and told.
+//! The command: decides an input, and reports the decision.
 ghost use Rattle.std.specs.Prelude.{◌≡◌, ◌≤◌, ◌+◌, ◌⊎◌, length, IfOk, OnOk, IsErrOf};
 ghost use Rattle.std.specs.Io.KnownBytes.{IsAtEnd};
 ghost use Rattle.pp_core.specs.declared.status.Status.TheVariants as statuses;
@@ -26,7 +26,7 @@ use pp_summary::Quick;
 use std::alloc::Global;
 use std::sync::ledger::Ledger;
 
-/// The text of a run whose start and records are good. The only error is out of memory.
+/// The text of a run whose start and records are all good. The only error is out of memory.
 fn report_accepted<L: Ledger>(
     alloc: Global,
     tally: &Tally,
@@ -46,8 +46,8 @@ fn report_accepted<L: Ledger>(
     quick_accepted(alloc, &tally.header.catalog, records, committed, &states)
 }
 
-/// The status and the text of what is decided of the input of a source. Only the records are
-/// judged, whose number has no limit but that of lines; their steps are not made.
+/// The status and the text for the input of a source. Only the records are judged, and no steps
+/// are made. The number of records is limited only by the number of lines.
 pub fn quick<S: Source, L: Ledger>(
     alloc: Global,
     source: &mut S,

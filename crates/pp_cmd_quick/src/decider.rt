@@ -1,4 +1,4 @@
-//! The summary of a boosted run, as its judge.
+//! The summary of a boosted run, as a judge of its records.
 ghost use Rattle.std.specs.Prelude.{◌≡◌, ◌≤◌, ◌+◌, IfOk};
 ghost use Rattle.pp_format_read.specs.Starts.{IsReadableStart};
 ghost use Rattle.pp_judge.specs.Costs.{start_length};
@@ -17,13 +17,13 @@ use pp_summary::Quick;
 use std::alloc::Global;
 use std::sync::ledger::Ledger;
 
-/// A summary that takes the records of a boosted run, without their steps.
+/// A summary that takes the records of a boosted run one by one, without their steps.
 #[derive(Drop)]
 pub(crate) struct Decider {
     pub(crate) quick: Quick<Objects>,
 }
 
-/// The line of the start, or of the first record, that is not good.
+/// The line of the start or the record that is not good.
 #[derive(Drop)]
 pub(crate) struct RejectedLine {
     pub(crate) line: u32,
@@ -39,7 +39,8 @@ fn is_boosted(style: Style) -> bool
     }
 }
 
-/// A summary with the start of a header, if it has one; with false the start fails.
+/// Makes a summary with the start of a header, if the header has one. It returns false if the
+/// start fails.
 pub fn start_quick<L: Ledger>(
     alloc: Global,
     header: &Header,

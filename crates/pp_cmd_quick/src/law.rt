@@ -1,9 +1,9 @@
-//! Laws of what is decided.
+//! A law of the decision.
 ghost use Rattle.pp_cmd_quick.specs.Laws.{DecisionLaw};
 
-/// An input is decided in one way at most, which is the verdict of all its steps, told by the line,
-/// and what `certify` reports of it, unless that is TooManySteps. It is a law of the definitions,
-/// and does nothing.
+/// An input is decided in at most one way. The decision is the verdict of all its steps, reported
+/// by the line. It is also what `certify` reports, unless that is TooManySteps. This is a law of
+/// the definitions: the body is empty.
 pub fn decision_law()
     ensures { DecisionLaw }
 {}

@@ -1,4 +1,4 @@
-//! The command `quick`: a boosted run is decided from its records, without their steps.
+//! The command `quick`: it decides a boosted run from its records, without their steps.
 #![tactic(auto)]
 
 mod command;

@@ -1,4 +1,4 @@
-//! What an input is found to be, as a certificate.
+//! Checking an input as a certificate.
 ghost use Rattle.std.specs.Prelude.{◌≡◌, ◌≤◌, ◌+◌, ℕ, List, IfOk, IsErrOf};
 ghost use Rattle.pp_certificate_lines.specs.Checkings.{read_in, Covers};
 ghost use Rattle.pp_certificate_lines.specs.Rechecked.{RecheckReadsNoFault};
@@ -18,16 +18,16 @@ use pp_objects::{ObjectStates, Op};
 use std::alloc::Global;
 use std::sync::ledger::Ledger;
 
-/// What an input is found to be, as a certificate.
+/// The result of checking an input as a certificate.
 #[derive(Drop)]
 pub(crate) enum CheckedInput {
-    /// This line is at fault or refused.
+    /// This line has a fault or is refused.
     Fault(u32, CheckFault),
-    /// It is one over these objects, and shows this.
+    /// The input is a certificate over these objects, and this is what it shows.
     Shows(Catalog, Shown<Kinds, ObjectStates, Op>),
 }
 
-/// Closes the checking of an input of which all lines were taken.
+/// Ends the checking of an input after its last line.
 fn close_checking<L: Ledger>(
     checking: Checking,
     ticks: &mut Ticks<L>,
@@ -46,7 +46,7 @@ fn close_checking<L: Ledger>(
     }
 }
 
-/// Checks the input of a source as a certificate. What it shows is found on the whole input.
+/// Checks the input of a source as a certificate. The result is about the whole input.
 pub(crate) fn check_input<S: Source, L: Ledger>(
     alloc: Global,
     source: &mut S,

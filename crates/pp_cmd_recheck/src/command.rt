@@ -16,8 +16,8 @@ use pp_input_reader::Failure;
 use std::alloc::Global;
 use std::sync::ledger::Ledger;
 
-/// The status and the report of the input of a source, as a certificate. It asks the sequential
-/// objects and their movers alone.
+/// The status and the report of the input of a source, as a certificate. Only the sequential
+/// objects and their swap tests decide it.
 pub fn recheck<S: Source, L: Ledger>(
     alloc: Global,
     source: &mut S,

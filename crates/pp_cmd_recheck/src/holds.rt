@@ -1,4 +1,4 @@
-//! The report of a certificate that holds.
+//! The report of a certificate that is accepted.
 ghost use Rattle.std.specs.Prelude.{◌≡◌, ◌++◌, IfOk, OnOk};
 ghost use Rattle.std.specs.Fmt.{decimal};
 ghost use Rattle.pp_certificate_lines.specs.Checkings.{IsShownOf};
@@ -18,7 +18,7 @@ fn write_count(text: &mut Text, word: &[u8], count: u64) -> Result<(), OutOfMemo
     write_number(text, count)
 }
 
-/// The first line of a certificate that holds.
+/// The first line of the report of a certificate that is accepted.
 fn first_line(
     alloc: Global,
     operations: u32,
@@ -35,7 +35,7 @@ fn first_line(
     Ok(text)
 }
 
-/// The report of a certificate that holds. The only error is out of memory.
+/// The report of a certificate that is accepted. The only error is out of memory.
 pub(crate) fn holds(
     alloc: Global,
     catalog: &Catalog,

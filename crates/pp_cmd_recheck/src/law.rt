@@ -1,7 +1,7 @@
-//! Laws of what `recheck` gives. Each is a fact of the definitions, and does nothing.
+//! Laws of what `recheck` prints. Each law is a fact about the definitions: its body is empty.
 ghost use Rattle.pp_cmd_recheck.specs.Laws.{RecheckLaw};
 
-/// Each input has one status and one text. What an accepted one shows is sound.
+/// Each input has exactly one status and one text. What an accepted certificate shows is sound.
 pub fn recheck_law()
     ensures { RecheckLaw }
 {}

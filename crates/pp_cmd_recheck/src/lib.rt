@@ -1,4 +1,4 @@
-//! Checking a certificate of exchanges: the command `recheck`, which trusts nothing of a machine.
+//! The command `recheck`: it checks a certificate of exchanges, and needs no machine to do so.
 #![tactic(auto)]
 
 mod check_input;

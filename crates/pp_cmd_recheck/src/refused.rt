@@ -1,4 +1,4 @@
-//! The report of a line that is not taken.
+//! The report of a line that is refused.
 ghost use Rattle.std.specs.Prelude.{◌≡◌, IfOk};
 ghost use Rattle.pp_core.specs.Catalogs.{Objects};
 ghost use Rattle.pp_certificate_checker.specs.declared.refusal.Refusal.TheVariants.{Gives, Pair, Position};
@@ -11,7 +11,7 @@ use pp_input_reader::{Cause, fault};
 use pp_text::{write_answer, write_number};
 use std::alloc::Global;
 
-/// Where a line is refused.
+/// The part of a report that says which line is refused.
 fn place_text(alloc: Global, line: u32) -> Result<Text, OutOfMemory>
     ensures { IfOk result (λ text. text ≡ refused_place line) }
 {
@@ -21,7 +21,7 @@ fn place_text(alloc: Global, line: u32) -> Result<Text, OutOfMemory>
     Ok(text)
 }
 
-/// The report of an entry whose result is another.
+/// The report of an entry whose recorded result is not what the object returns.
 fn gives_text(alloc: Global, line: u32, entry: u32, answer: &Answer) -> Result<Text, OutOfMemory>
     ensures { IfOk result (λ text. text ≡ refused_text line (Gives entry answer.now)) }
 {
@@ -57,8 +57,7 @@ fn pair_text(alloc: Global, line: u32, first: u32, second: u32) -> Result<Text, 
     Ok(text)
 }
 
-/// The status and the report of a line that is not taken. The only error is that memory was
-/// refused.
+/// The status and the report of a line that is refused. The only error is out of memory.
 pub(crate) fn refused(
     alloc: Global,
     line: u32,

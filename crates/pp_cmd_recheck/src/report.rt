@@ -1,4 +1,4 @@
-//! The status and the report of what an input is found to be.
+//! The status and the report of a checked input.
 ghost use Rattle.std.specs.Prelude.{IfOk};
 ghost use Rattle.pp_cmd_recheck.specs.CheckedInputs.{CanReport, IsCheckedInputTold};
 
@@ -10,8 +10,7 @@ use pp_core::{OutOfMemory, Status, Text};
 use pp_input_reader::fault;
 use std::alloc::Global;
 
-/// The status and the report of what an input is found to be. The only error is that memory was
-/// refused.
+/// The status and the report of a checked input. The only error is out of memory.
 pub(crate) fn report(alloc: Global, input: &CheckedInput) -> Result<(Status, Text), OutOfMemory>
     requires { CanReport input.now }
     ensures { IfOk result (λ r. IsCheckedInputTold input.now r.0 r.1) }

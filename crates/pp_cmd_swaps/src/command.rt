@@ -1,4 +1,4 @@
-//! The command: an input is certified, and of an accepted run a certificate is written.
+//! The command: certifies an input, and writes a certificate for an accepted run.
 ghost use Rattle.std.specs.Prelude.{◌≡◌, ◌≢◌, ◌≤◌, ◌⊎◌, IfOk, IsErrOf};
 ghost use Rattle.std.specs.Io.KnownBytes.{IsAtEnd};
 ghost use Rattle.pp_core.specs.declared.limits.TheConstants.{MOST_STEPS};
@@ -25,8 +25,8 @@ use pp_objects::Objects;
 use std::alloc::Global;
 use std::sync::ledger::Ledger;
 
-/// What is told of the configuration of a machine: its certificate, unless that would have too many
-/// exchanges. The only error is out of memory.
+/// The text for the configuration of a machine: its certificate, or a message if it would have too
+/// many exchanges. The only error is out of memory.
 fn told(
     alloc: Global,
     catalog: &Catalog,
@@ -38,7 +38,7 @@ fn told(
 {
     let shared = machine.shared();
     let entries = shared.entries();
-    // They are here for what their clauses say of each machine and of each shared log.
+    // These are called for their clauses, which are true of each machine and of each shared log.
     let _steps = machine.count();
     let _length = shared.len();
     let committed = machine.committed();
@@ -63,9 +63,9 @@ fn told(
     }
 }
 
-/// The status and the text of the input of a source: of an accepted run the certificate, or how
-/// many exchanges this would have if they are too many, and else what `certify` answers. A
-/// verdict is found on the whole of the input.
+/// The status and the text for the input of a source. For an accepted run, the text is its
+/// certificate, or the number of exchanges if there are too many of them. Otherwise it is what
+/// `certify` prints. A verdict is about the whole input.
 pub fn swaps<S: Source, L: Ledger>(
     alloc: Global,
     source: &mut S,

@@ -1,5 +1,5 @@
-//! The command `swaps`: of an accepted run, the certificate of exchanges that put its shared log
-//! into commit order.
+//! The command `swaps`: for an accepted run, it writes the certificate of the exchanges that put
+//! the shared log into commit order.
 #![tactic(auto)]
 
 mod command;

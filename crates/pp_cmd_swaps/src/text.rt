@@ -1,4 +1,4 @@
-//! The text of a certificate, and what is told in place of one that would be too large.
+//! The text of a certificate, and the text that replaces one that would be too large.
 ghost use Rattle.std.specs.Prelude.{◌≡◌, [], ◌∷◌, ◌++◌, map, OnOk, IfOk};
 ghost use Rattle.std.specs.List.{flat_map};
 ghost use Rattle.pp_input.specs.Joined.{joined_lines};
@@ -15,7 +15,7 @@ use pp_objects::Op;
 use pp_text::write_number;
 use std::alloc::Global;
 
-/// How many positions a row has, but for the last.
+/// How many positions each row but the last has.
 const ROW: usize = 1000;
 
 /// Adds a line with its end.
@@ -83,8 +83,8 @@ fn add_rows(alloc: Global, positions: &[u32], text: &mut Text) -> Result<(), Out
 }
 
 /// The text of a certificate: the objects of the catalog, the entries of a log, the positions of
-/// exchanges, and how many of the entries are the serial run then. The only error is out
-/// of memory.
+/// the exchanges, and how many of the entries are then the serial run. The only error is out of
+/// memory.
 pub(crate) fn certificate_text(
     alloc: Global,
     catalog: &Catalog,
@@ -107,8 +107,7 @@ pub(crate) fn certificate_text(
     Ok(text)
 }
 
-/// What is told of a certificate that would have this many exchanges. The only error is
-/// out of memory.
+/// The text that replaces a certificate with this many exchanges. The only error is out of memory.
 pub(crate) fn too_large_text(alloc: Global, count: u64) -> Result<Text, OutOfMemory>
     ensures { IfOk result (λ text. text ≡ too_large_text count) }
 {

@@ -21,8 +21,8 @@ use pp_judge::{Driven, Finding, examine, report_rejected};
 use std::alloc::Global;
 use std::sync::ledger::Ledger;
 
-/// The status and the text of `views` for the input of a source: of an accepted run, what each
-/// attempt saw. The input is read to its end, unless it has a fault.
+/// The status and the text of `views` for the input of a source. For an accepted run, the text
+/// says what each attempt saw. The input is read to its end, unless it has a fault.
 pub fn views<S: Source, L: Ledger>(
     alloc: Global,
     source: &mut S,

@@ -1,5 +1,5 @@
-//! The command `views`: the attempts of a run, undone ones included, each with the number of
-//! committed transactions after which its results are what the objects give.
+//! The command `views`: the attempts of a run, also those that were undone. Each has a number of
+//! committed transactions after which its results are what the objects return.
 #![tactic(auto)]
 
 mod command;

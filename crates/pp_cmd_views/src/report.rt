@@ -40,7 +40,7 @@ fn run_views<L: Ledger>(
         + 2 * ((length machine.now.config.done + 1) * operations found.now) }
 {
     let kinds = tally.header.catalog.kinds(alloc)?;
-    // It is here for what its clauses say of the machine.
+    // `count` is called for its clauses, which are true of each machine.
     let _count = machine.count();
     explain::<Objects, L>(alloc, &kinds, machine.committed(), found, ticks)
 }
@@ -67,8 +67,7 @@ fn views_told<L: Ledger>(
     views_text(alloc, machine.count(), committed.len(), &views)
 }
 
-/// The status and the text of an accepted run with these steps. The only error is that memory was
-/// refused.
+/// The status and the text of an accepted run with these steps. The only error is out of memory.
 pub(crate) fn report_views<L: Ledger>(
     alloc: Global,
     tally: &Tally,

@@ -50,8 +50,8 @@ fn write_views(text: &mut Text, views: &[View]) -> Result<(), OutOfMemory>
     Ok(())
 }
 
-/// The text of an accepted run of so many steps and committed transactions, with these views. The
-/// only error is out of memory.
+/// The text of an accepted run with this many steps and committed transactions, and with these
+/// views. The only error is out of memory.
 pub(crate) fn views_text(
     alloc: Global,
     steps: u32,
@@ -66,8 +66,8 @@ pub(crate) fn views_text(
     Ok(text)
 }
 
-/// The text of a run whose peaks have so many operations that their views are not looked for. The
-/// only error is out of memory.
+/// The text of an accepted run whose attempts have too many operations to look for their views.
+/// The only error is out of memory.
 pub(crate) fn too_large_text(alloc: Global, count: u64) -> Result<Text, OutOfMemory>
     ensures { IfOk result (λ text. text ≡ too_large_text count) }
 {

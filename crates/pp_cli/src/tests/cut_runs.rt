@@ -22,8 +22,8 @@ const CUT: [&[u8]; 5] = [
     b"fault line 5 NotJson\n",
 ];
 
-/// The status and the report for this many whole lines and the beginning of the next one. That one
-/// is cut, or whole but for its end.
+/// The status and the report for this many whole lines and the beginning of the next one. The next
+/// line is cut, or whole without its line end.
 fn answer_to(lines: usize, is_begun: bool, is_cut: bool) -> Option<(Status, &'static [u8])> {
     let report = match (is_begun, is_cut) {
         (true, true) => CUT.get(lines)?,

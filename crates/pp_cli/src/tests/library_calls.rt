@@ -1,4 +1,4 @@
-//! Texts and a serial run that no command asks for. With ample memory, no call returns out of
+//! Texts and a serial run that no command needs. With enough memory, no call returns out of
 //! memory.
 ghost use Rattle.std.specs.Prelude.{◌≡◌, ◌<◌, [], ◌∷◌, IfOk};
 ghost use Rattle.pp_core.specs.declared.call.Kind.TheVariants.{Memory, Counter};

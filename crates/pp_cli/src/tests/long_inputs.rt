@@ -376,7 +376,7 @@ pub(crate) fn turned_commits(alloc: Global) -> Result<Vec<u8>, Fail> {
 }
 
 /// A transaction adds to a counter 2,000 times, and then takes back and adds 999 times more.
-/// Another one adds once. Their attempts have 2,000,001 operations together.
+/// Another transaction adds once. Their attempts have 2,000,001 operations together.
 pub(crate) const MANY_PEAKS: &[Piece] = &[
     Piece {
         parts: &[COUNTER],

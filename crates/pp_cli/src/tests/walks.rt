@@ -1,4 +1,4 @@
-//! A step of a walk that no command takes. With ample memory, no call returns out of memory.
+//! A step of a walk that no command takes. With enough memory, no call returns out of memory.
 use pp_body::Walk;
 use pp_core::{Body, Call, Method, Pattern};
 use std::test::Fail;
@@ -12,7 +12,7 @@ const ADDITION: Pattern = Pattern {
     third: Some(0),
 };
 
-/// One of them.
+/// A call that is such an addition.
 const CALL: Call = Call {
     object: 0,
     method: Method::Add,
