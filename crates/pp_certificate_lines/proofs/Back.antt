@@ -40,13 +40,13 @@ use Rattle.pp_certificate_lines.specs.Reading.{shown_line, line_of, objects_in, 
 use Rattle.pp_certificate_lines.proofs.Tidy.{near_head, head_shallow, near_entry, entry_shallow}
 use Rattle.pp_certificate_lines.proofs.Tidy.{near_row, row_shallow, near_serial, serial_shallow}
 
--- ---- a number
+-- ---- a number that is written in a line is read back
 number_back : (n : ℕ) → n ≤ 999_999_999 → number_of (number (unsigned n)) ≡ Some n
 unfolding number_of
 number_back n h = id_back n h
 
 -- ---- the head
--- the objects of a header that was read
+-- The objects of a header that was read.
 abbrev catalog_in : Result Header RecordFault → Result Objects RecordFault
 catalog_in (Ok h) = Ok h.catalog
 catalog_in (Err e) = Err e
@@ -89,7 +89,7 @@ unfolding objects_on object_of
 objects_read line catalog cat is =
     rw (is, number_back 1 (omega arith), catalog_back catalog cat) refl
 
--- the first line of a certificate names its objects
+-- The first line of a certificate names its objects.
 pub named : (catalog : Objects) (c : Config Op) → IsCatalog catalog
     → objects_in (lines_of catalog c) ≡ catalog
 named catalog c cat =
@@ -97,7 +97,7 @@ named catalog c cat =
     let is = value_back (head_value catalog) (near_head catalog cat.named) (head_shallow catalog) in
     ap (λ (o : Option Objects). objects_named o) (objects_read line catalog cat is)
 
--- ---- an entry
+-- ---- an entry that is written in a line is read back
 item_back : (catalog : Objects) (p : Item Op) → IsCatalog catalog → IsId p.id
     → IsOpOn catalog p.op → item_of catalog (item_value catalog p) ≡ Ok p
 unfolding item_of id_of whole_of whole member_of
@@ -110,7 +110,7 @@ entry_read : (line : List ℕ) (catalog : Objects) (p : Item Op) → IsCatalog c
 unfolding object_of
 entry_read line catalog p cat small h is = rw (is, item_back catalog p cat small h) refl
 
--- ---- a row
+-- ---- a row of positions that is written in a line is read back
 positions_back : (is : List ℕ) → Each (λ i. i ≤ 999_999_999) is
     → numbers_of (items_of (map position_value is)) ≡ Some is
 unfolding numbers_of
@@ -134,13 +134,13 @@ row_read line catalog is some few each v =
       positions_back is each,
     ) refl
 
--- ---- the serial number
+-- ---- a serial number that is written in a line is read back
 serial_read : (line : List ℕ) (catalog : Objects) (n : ℕ) → n ≤ 999_999_999
     → value_of line ≡ Ok (serial_value n) → later_line catalog line ≡ Serial n
 unfolding object_of
 serial_read line catalog n h v = rw (v, number_back n h) refl
 
--- ---- in its place
+-- ---- each line at its place in a certificate
 module _ (catalog : Objects) where
   read_shown : (s : Stage (List Kind) Op) (line : List ℕ) → blank line ≡ false
       → reader catalog s line ≡ shown_line catalog s line

@@ -1,4 +1,4 @@
--- Proof machinery: a line behind lines that were taken, and the end of them.
+-- Proof machinery: one more line after the lines that were taken, and the end of a certificate.
 use Rattle.std.proofs.Common.{◌≡◌, ◌+◌, ℕ, Bool, true, false, cond, List, [], ◌∷◌, ◌++◌, length}
 use Rattle.std.proofs.Common.{Option, None, Some, IfSome, option_map, Result, Ok, Err, IfOk, refl, sym, ap, subst}
 use Rattle.std.proofs.Common.{◌∙◌, arith, inl, append_assoc, append-nil}
@@ -35,19 +35,19 @@ abbrev So : Type 0
 So = ReadSoFar (List Kind) Op
 
 module _ (lines : List (List ℕ)) (line : List ℕ) where
-  -- one line more
+  -- One more line was taken.
   one_more : (v w : So) → v.lines ≡ length lines → w.lines ≡ v.lines + 1
       → w.lines ≡ length (lines ++ line ∷ [])
   one_more v w count next = omega (arith, length-append lines (line ∷ []), count, next)
 
-  -- what the line and those behind it name
+  -- The objects that the line and those after it name.
   behind : (more : List (List ℕ))
       → objects_in ((lines ++ line ∷ []) ++ more) ≡ objects_in (lines ++ line ∷ more)
   behind more = ap (λ (ls : List (List ℕ)). objects_in ls) (append_assoc lines (line ∷ []) more)
 
-  -- ---- behind blank lines
+  -- ---- one more line after blank lines
   module _ (v : So) (cov : CoversBlank lines v) where
-    -- the line is read as the first one, over any objects
+    -- The line is read as the first one, over any objects.
     as_first : (catalog : Objects) → reader catalog v.stage line ≡ line_in (Before v) line
     as_first catalog = ap (λ (s : Stage (List Kind) Op). reader catalog s line) cov.fresh
 
@@ -112,7 +112,7 @@ module _ (lines : List (List ℕ)) (line : List ℕ) where
         read_on objects (reader catalog) (line ∷ more) verdict lines 1 Fresh v.stage
         (cov.leads catalog) (inl (why, here, ap (λ n. Refused n why) (omega arith)))
 
-  -- ---- behind the first one
+  -- ---- one more line after the first one
   module _ (catalog : Objects) (v : So) (cov : CoversNamed lines catalog v) where
     as_later : (s : Stage (List Kind) Op) → IsOver (kinds_of catalog) s
         → reader catalog s line ≡ line_in (Within catalog v) line
@@ -121,7 +121,7 @@ module _ (lines : List (List ℕ)) (line : List ℕ) where
     as_later (Exchanged kinds list count) h = refl
     as_later (Ended kinds list count n) h = refl
 
-    -- After the first line, one more line that is taken is of the same objects.
+    -- If one more line after the first one is taken, the lines are of the same objects.
     pub later_more : (w : So) → Takes objects v (line_in (Within catalog v) line) (Ok w)
         → CoversNamed (lines ++ line ∷ []) catalog w
     later_more w h =
@@ -152,7 +152,7 @@ module _ (lines : List (List ℕ)) (line : List ℕ) where
         (read_on objects (reader catalog) (line ∷ more) verdict lines 1 Fresh v.stage cov.leads
         (inl (why, here, ap (λ n. Refused n why) (omega arith))))
 
--- ---- in one
+-- ---- the lines that a checking took, with one more line
 leads_next : (v : Checking) (line : List ℕ) (next : Result Checking Refusal)
     → TakesLine v line next → (lines : List (List ℕ)) → Covers lines v → LeadsOn lines line next
 leads_next (Before v) line (Ok (Before w)) h lines cov =
@@ -174,9 +174,9 @@ pub text_leads : (v : Checking) (line : List ℕ)
 text_leads v line (Ok next) h = λ lines cov. leads_next v line next h lines cov
 text_leads v line (Err refused) h = tt
 
--- ---- the end
+-- ---- the end of the lines
 module _ (lines : List (List ℕ)) where
-  -- what the stage that the lines lead to gives is the verdict on them
+  -- What the stage after all lines shows is the verdict on the lines.
   ends_with : (catalog : Objects) (s : Stage (List Kind) Op)
       (V : Verdict (List Kind) (List ObjectState) Op) → objects_in lines ≡ catalog
       → Leads objects (reader catalog) Fresh lines s
@@ -188,13 +188,13 @@ module _ (lines : List (List ℕ)) where
       (append-nil lines)
       (read_on objects (reader catalog) [] V lines 1 Fresh s leads closing))
 
-  -- the objects of lines behind which nothing comes
+  -- The objects that lines name if no line comes after them.
   pub named_here : (catalog : Objects) (v : So) → CoversNamed lines catalog v
       → objects_in lines ≡ catalog
   named_here catalog v cov =
       sym (ap (λ (ls : List (List ℕ)). objects_in ls) (append-nil lines)) ∙ cov.named []
 
-  -- lines that are taken have a verdict
+  -- Lines that are taken have a verdict.
   pub covered_verdict : (now : Checking) → Covers lines now
       → (V : Verdict (List Kind) (List ObjectState) Op)
       → IsClosing (1 + length lines) (shown_at objects (read_in now).stage) V
@@ -226,7 +226,7 @@ module _ (lines : List (List ℕ)) where
       let is : h ≡ shown objects over list count n = cc in
       ap (λ (x : Shown (List Kind) (List ObjectState) Op). x.shape) is ∙ o
 
-  -- An input that named its objects ends with what its stage shows, if that is something.
+  -- An input that named its objects ends with what its stage shows, if it shows something.
   pub named_closes : (catalog : Objects) (v : So)
       (found : Option (Shown (List Kind) (List ObjectState) Op))
       → found ≡ shown_at objects v.stage

@@ -23,7 +23,7 @@ use Rattle.pp_certificate_lines.specs.Takers.{entries_at}
 abbrev At : Type 0
 At = Stage (List Kind) Op
 
--- the stage t is u, which has so many entries
+-- If the stage u has at most n entries, and the stage t is u, t has at most n.
 entries_is : (t u : At) (n : ℕ) → ◌≡◌ {A = Step (List Kind) Op} (Ok t) (Ok u) → entries_at u ≤ n
     → entries_at t ≤ n
 entries_is t u n r h = subst (λ (w : At). entries_at w ≤ n) (sym (ok_is t u r)) h

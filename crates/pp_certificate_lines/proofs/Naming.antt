@@ -16,7 +16,7 @@ use Rattle.pp_certificate_checker.specs.declared.shown.Shown.{Shown}
 use Rattle.pp_certificate_checker.specs.Laws.{ShowsAllowed}
 use Rattle.pp_certificate_lines.specs.Checkings.{IsShownOf}
 
--- each operation of an allowed list fits its shape
+-- Each operation of an allowed list fits its shape.
 all_fit : (states : List ObjectState) (l : List (Item Op)) → AllowedFrom objects states (ops l)
     → Each (λ p. IsTrue (objects.fits (objects.shape states) p.op)) l
 all_fit states [] allowed = tt

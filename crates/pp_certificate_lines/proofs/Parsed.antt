@@ -1,4 +1,4 @@
--- Proof machinery: what is read of a line, and of an array number by number.
+-- Proof machinery: reading a line, and an array number by number.
 use Rattle.std.proofs.Common.{◌≡◌, ◌<◌, ◌≤◌, ◌+◌, ℕ, List, [], ◌∷◌, ◌++◌, length, drop, get_or}
 use Rattle.std.proofs.Common.{Option, Some, None, option_map, Result, Ok, Err, IfOk, refl, sym, ap}
 use Rattle.std.proofs.Common.{◌∙◌, append-nil, append_assoc}
@@ -33,12 +33,12 @@ same_of : {X : Type 0} (r : Result (Option X) OutOfMemory) (given : Option X)
 same_of (Ok o) given h = sym (same o) ∙ h
 same_of (Err refused) given h = tt
 
--- What is found is what was read, unless memory ran out. A fault is none.
+-- What is found is what was read, or nothing if there was a fault, unless it ran out of memory.
 pub same_found : {X : Type 0} (read given : Result X RecordFault) (r : Result (Option X) OutOfMemory)
     → Gives (λ x. x) read given → Finds read r → IfOk r (λ o. o ≡ found given)
 same_found read given r h k = same_of r (found given) (found_is (λ x. x) read given r h k)
 
--- ---- number by number
+-- ---- the numbers so far, and then the rest if it could be read
 abbrev pub behind : List ℕ → Option (List ℕ) → Option (List ℕ)
 behind list None = None
 behind list (Some more) = Some (list ++ more)

@@ -31,9 +31,9 @@ pub covers_count : (lines : List (List ℕ)) (now : Checking) → Covers lines n
 covers_count lines (Before v) cov = cov.count
 covers_count lines (Within catalog v) cov = cov.count
 
--- ---- line by line
+-- ---- taking the lines one by one
 
--- before the first line no entry was read
+-- Before the first line, no entry was read.
 none_at : (first : ℕ) (s : Stage (List Kind) Op) → s ≡ Fresh → first + entries_at s ≤ first
 none_at first Fresh e = omega arith
 none_at first (Entered shape list) e = absurd (cc)
@@ -44,13 +44,13 @@ none_read : (first : ℕ) (now : Checking) → Covers [] now → first + entries
 none_read first (Before v) cov = none_at first v.stage cov.fresh
 none_read first (Within catalog v) cov = none_at first v.stage cov.leads
 
--- before the first
+-- Before the first line, a new checking has taken no line.
 pub leads_nothing : (first : ℕ) (checking : Checking) → Covers [] checking
     → (check_reading first).Leads [] (checking, first)
 leads_nothing first checking cov = (cov, omega arith, none_read first checking cov)
 
 module _ (first : ℕ) (from : Checking × ℕ) (line : NumberedLine) where
-  -- so many lines were taken before this one
+  -- The number of the next line is one more than the lines that were taken.
   pub next_number : IsNext (check_reading first) from line
       → line.0 ≡ (read_in from.0).lines + 1
   next_number is =
@@ -61,7 +61,7 @@ module _ (first : ℕ) (from : Checking × ℕ) (line : NumberedLine) where
         covers_count (bare is.0) from.0 is.1.0,
       )
 
--- the line is taken
+-- If a line is taken, the checking after it has taken this line too.
 pub leads_on : (from : Checking) (now new : ℕ) (line : NumberedLine) (to : Checking)
     → new ≤ now + 1
     → new ≡ now + cost objects (read_in from).stage (line_in from line.1)
@@ -78,7 +78,7 @@ leads_on from now new line to bound counted takes taken first lines leads = (
       omega (arith, counted, leads.2, more),
 )
 
--- it is the first that is not
+-- If a line is refused, it is the first line that is refused.
 pub faulty_here : (from : Checking) (now : ℕ) (line : NumberedLine) (why : Refusal)
     → line.0 ≡ (read_in from).lines + 1
     → ((lines : List (List ℕ)) → Covers lines from

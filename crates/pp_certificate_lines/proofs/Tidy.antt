@@ -22,7 +22,7 @@ use Rattle.pp_format_write.proofs.Texts.{IsTidy, AreTidy, IsWhole, IsNear, no_fl
 use Rattle.pp_certificate_lines.specs.Lines.{head_value, position_value, row_value, serial_value}
 use Rattle.pp_certificate_lines.specs.Lines.{head_bytes, entry_bytes, row_bytes, serial_bytes}
 
--- ---- the head
+-- ---- the first line
 head_tidy : (P : Num → Type 0) (catalog : Objects) → HasNames catalog → P (unsigned 1)
     → IsTidy P (head_value catalog)
 head_tidy P catalog h p = (refl, (refl, p, (refl, objects_tidy P catalog h, tt)))
@@ -43,7 +43,7 @@ head_one_line catalog h = one_line_text (head_value catalog) (head_tidy IsWhole 
 pub head_shallow : (catalog : Objects) → depth (head_value catalog) ≤ max_depth
 head_shallow catalog = omega (arith, objects_flat catalog)
 
--- ---- an entry
+-- ---- the line of an entry
 whole_entry : (catalog : Objects) (p : Item Op) → HasNames catalog → IsOpOn catalog p.op
     → IsTidy IsWhole (item_value catalog p)
 whole_entry catalog p names h = (
@@ -81,7 +81,7 @@ entry_shallow catalog p =
     let args = arguments_flat (arity_in p.op.act) (Some c.first) (Some c.second) (Some c.third) in
     omega (arith, args, answer_flat (recorded_by p.op.act))
 
--- ---- a row
+-- ---- the line of a row
 positions_tidy : (P : Num → Type 0) (is : List ℕ) → Each (λ i. P (unsigned i)) is
     → AreTidy P (items_of (map position_value is))
 positions_tidy P [] h = tt
@@ -118,7 +118,7 @@ positions_flat (i ∷ is) = omega (arith, positions_flat is)
 pub row_shallow : (is : List ℕ) → depth (row_value is) ≤ max_depth
 row_shallow is = omega (arith, positions_flat is)
 
--- ---- the serial number
+-- ---- the line of the serial number
 whole_serial : (n : ℕ) → IsTidy IsWhole (serial_value n)
 whole_serial n = (refl, (refl, tt, tt))
 

@@ -1,4 +1,4 @@
--- The run of each number of transactions is accepted, and what it leaves.
+-- The run of each number of transactions is accepted, with its last configuration.
 use Rattle.std.proofs.Common.{◌≡◌, ℕ, zero, suc, ◌+◌, ◌*◌, ◌/◌, ◌%◌, ◌<◌, ◌≤◌, List, [], ◌∷◌, ◌++◌, map, length, None, refl, sym, ap, subst, ◌∙◌, arith}
 use Rattle.std.proofs.lemmas.List.{append-nil, length-append, length-map}
 use Rattle.pp_model.specs.Object.{Item, ops, state}
@@ -18,7 +18,7 @@ use Rattle.pp_cmd_drill.proofs.Pair.{done_first}
 use Rattle.pp_cmd_drill.proofs.Run.{after_pairs, after_unpaired, pairs_lead, unpaired_leads, serial_after, serial_unpaired, count_after, done_after}
 use Rattle.pp_cmd_drill.proofs.Shown.{shows_at}
 
--- after q pairs, and a transaction alone if one is left
+-- The configuration after q pairs, and after a single transaction if the number is odd.
 abbrev after_all : ℕ → ℕ → Config Op
 after_all zero q = after_pairs q
 after_all (suc r) q = after_unpaired q
@@ -41,7 +41,7 @@ same_items : (l : List (Attempt Op)) → serial_items (map committed_tx l) ≡ j
 same_items [] = refl
 same_items (a ∷ l) = ap (λ (w : List (Item Op)). a.items ++ w) (same_items l)
 
--- For n from 1 to 20,000, the run of n transactions is accepted, and leaves what `DrillFacts` says.
+-- For n from 1 to 20,000, the run of n transactions is accepted, and ends as `DrillFacts` says.
 pub drill_accepted : (n : ℕ) → 1 ≤ n → n ≤ 20000 → DrillFacts n
 drill_accepted n low high =
     let q = n / 2 in

@@ -1,4 +1,4 @@
--- What the operations of the run give, what they leave, and which of them swap.
+-- What the operations of the run return, which states they lead to, and which of them swap.
 use Rattle.std.proofs.Common.{◌≡◌, ℕ, suc, ◌+◌, ◌%◌, ℤ, pos, Bool, true, false, cond, if◌then◌else◌, List, [], ◌∷◌, Some, None, refl, sym, ap, ◌∙◌, int_eq, arith}
 use Rattle.std.specs.Ordering.{int_cmp}
 use Rattle.std.specs.FinMap.{FinMap, empty}
@@ -21,23 +21,23 @@ use Rattle.pp_objects.specs.laws.Objects.{objects_lawful}
 use Rattle.pp_cmd_drill.specs.Drill.{drill_kinds, read, write, add, ask}
 use Rattle.pp_cmd_drill.specs.Law.{drill_objects, sum_to, states_at}
 
--- the states of the objects of the drill: a memory, a counter and an empty set
+-- The states of the objects of the drill: a memory, a counter and an empty set.
 abbrev pub three : FinMap int_cmp ℤ → ℤ → List ObjectState
 three m x = states.Memory m ∷ states.Counter x ∷ states.KeySet empty ∷ []
 
--- the operations of the first transaction of a pair
+-- The operations of the first transaction of a pair.
 abbrev pub of_first : ℕ → ℕ → List Op
 of_first p a = read p ∷ write (suc p) ∷ add a ∷ ask a ∷ []
 
--- the operations of the second transaction of a pair
+-- The operations of the second transaction of a pair.
 abbrev pub of_second : ℕ → List Op
 of_second b = add b ∷ ask b ∷ []
 
--- the operations of a pair in the order of their pushes
+-- The operations of a pair in the order of their pushes.
 abbrev pub of_both : ℕ → ℕ → ℕ → List Op
 of_both p a b = read p ∷ add b ∷ write (suc p) ∷ ask b ∷ add a ∷ ask a ∷ []
 
--- the operations of a pair in the order of their commits
+-- The operations of a pair in the order of their commits.
 abbrev pub in_order : ℕ → ℕ → ℕ → List Op
 in_order p a b = add b ∷ ask b ∷ read p ∷ write (suc p) ∷ add a ∷ ask a ∷ []
 
@@ -57,7 +57,7 @@ both_allowed m x p a b h = ((refl, ap Number h), ((refl, refl), ((refl, refl), (
 pub in_order_allowed : (m : FinMap int_cmp ℤ) (x : ℤ) (p a b : ℕ) → value_at m (pos 0) ≡ pos p → AllowedFrom drill_objects (three m x) (in_order p a b)
 in_order_allowed m x p a b h = ((refl, refl), ((refl, ap Truth (bits.empty_at (pos b))), ((refl, ap Number h), ((refl, refl), ((refl, refl), ((refl, ap Truth (bits.empty_at (pos a))), tt))))))
 
--- the number at 0, and a memory that is written again there
+-- A memory that is written at 0 has this number at 0.
 pub value_is : (p : ℕ) → value_at (written empty (pos 0) (pos p)) (pos 0) ≡ pos p
 value_is p = written_at empty (pos 0) (pos p) (pos 0)
 
@@ -88,7 +88,7 @@ at_start =
     (one_memory (written empty (pos 0) (pos 0)) empty (written_has_no_zero empty (pos 0) (pos 0) empty_has_no_zero) empty_has_no_zero
     (λ q. written_at empty (pos 0) (pos 0) q ∙ same_zero (int_eq q (pos 0)) (value_at empty q) (memories.empty_at q)))
 
--- the sums
+-- The sum that the additions make.
 pub sum_next : (x a : ℕ) → a ≡ suc x → sum_to a ≡ sum_to x + a % 7
 sum_next x a e = ap sum_to e ∙ ap (λ (k : ℕ). sum_to x + k % 7) (sym e)
 
@@ -107,7 +107,7 @@ pub after_first : (p x a : ℕ) → a ≡ suc x → state_from drill_objects (st
 after_first p x a e =
     ap (λ (m : FinMap int_cmp ℤ). three m (pos (sum_to x + a % 7))) (written_again (pos p) (pos (suc p))) ∙ ap (λ (k : ℕ). states_at (suc p) k) (sym (sum_next x a e))
 
--- which swap: additions, questions with the answer no, and what is on two objects
+-- Which operations swap: additions, questions with the result false, and operations on two objects.
 pub adds_swap : (a b : ℕ) → Swaps drill_objects (add a) (add b)
 adds_swap a b = (objects_lawful.unrefuted (add a) (add b)).0 refl drill_kinds
 

@@ -1,4 +1,4 @@
--- What is printed of the run, and what its text is certified as.
+-- What is printed for the run, and the report by which its text is certified.
 use Rattle.std.specs.Prelude.{◌≡◌, ◌≤◌, ℕ, List, [], ◌++◌, codes, length, map, None, Some}
 use Rattle.std.proofs.Common.{refl, sym, ap, ◌∙◌, subst, arith}
 use Rattle.std.proofs.lemmas.List.{append-nil, length-map}
@@ -43,9 +43,9 @@ use Rattle.pp_cmd_drill.specs.Prints.{PrintsLines, certified_text, drill_lines, 
 use Rattle.pp_cmd_drill.specs.Reports.{IsDrilled, drill_report, drill_scan}
 use Rattle.pp_cmd_drill.specs.Text.{drill_text}
 
--- ---- one output
+-- ---- the command has one output
 
--- what is printed of a report; of one that is not accepted nothing
+-- What is printed for a report: nothing if it is not accepted.
 abbrev printed_of : ℕ → RunReport → List ℕ
 printed_of n (Faulty at_line cause) = []
 printed_of n (Accepts steps committed final) = drill_report n steps (length committed) final

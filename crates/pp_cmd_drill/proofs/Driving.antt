@@ -1,4 +1,4 @@
--- A machine that is driven through the steps of the run is where its lines lead.
+-- A machine that is driven through the steps of the run ends where the lines of the run lead.
 use Rattle.std.specs.Prelude.{◌≡◌, ◌≤◌, ◌<◌, ◌+◌, ℕ, zero, suc, List, [], ◌∷◌, ◌++◌, length, Option, None, Some}
 use Rattle.std.proofs.Common.{refl, sym, ap, ◌∙◌, subst, arith, length-append}
 use Rattle.std.proofs.lemmas.List.{append-nil}
@@ -45,7 +45,7 @@ use Rattle.pp_cmd_drill.specs.Law.{drill_objects}
 use Rattle.pp_cmd_drill.specs.Reports.{drill_scan}
 use Rattle.pp_cmd_drill.specs.Text.{drill_header}
 
--- ---- what can be stated may be asked
+-- ---- what can be stated meets the conditions
 
 step_asked : (step : Step Op) → IsStatable drill_catalog step → IsAsked objects drill_kinds step
 step_asked (Begin t p None) h = tt
@@ -60,7 +60,7 @@ step_asked (Cmt t) h = tt
 step_asked (Quit t) h = tt
 step_asked (Note t) h = tt
 
--- the machine before the first step
+-- The machine before the first step.
 abbrev pub unmoved : Seen (List Kind) Op
 unmoved = record { shape = drill_kinds; config = first None; count = 0 }
 
@@ -91,7 +91,7 @@ module _ (n : ℕ) (low : 1 ≤ n) (high : n ≤ 20_000) where
   hold : RunsFrom drill_objects (first None) steps
   hold = (drill_accepted n low high).runs
 
-  -- ---- no step halts it
+  -- ---- no step halts the machine
 
   module _ (from to : ℕ) (new : Seen (List Kind) Op) (step : Step Op) (behind : List (Step Op)) (done : HasDone objects unmoved steps (step ∷ behind) new from to) where
     meets : Meets drill_objects (after_from (first None) done.before) step
@@ -116,7 +116,7 @@ module _ (n : ℕ) (low : 1 ≤ n) (high : n ≤ 20_000) where
   all_done from to new None d = d
   all_done from to new (Some halt) d = absurd (no_halt from to new d.0 d.1 d.2 halt d.3)
 
-  -- ---- where it is
+  -- ---- where the machine is
 
   abbrev T : Translation Front (RunRecord Op) Op
   T = translation_of drill_header
@@ -188,7 +188,7 @@ module _ (n : ℕ) (low : 1 ≤ n) (high : n ≤ 20_000) where
     new_is : new ≡ moved
     new_is = done.is ∙ ap (λ (w : List (Step Op)). after_steps unmoved w) all
 
-    -- With the tally of all lines, the machine that was driven through the run is where its records lead.
+    -- With the tally of all lines, a machine that was driven through the run is where the records lead.
     pub is_running : (catalog : Objects) (lines : ℕ) → catalog ≡ drill_catalog → lines ≡ new.count + 1 → IsRunning (drill_scan n) (record { header = rules_header catalog None; lines = lines; begins = n }) new
     is_running catalog lines over_is lines_are =
         let tally : Tally = record { header = rules_header catalog None; lines = lines; begins = n } in
@@ -196,11 +196,11 @@ module _ (n : ℕ) (low : 1 ≤ n) (high : n ≤ 20_000) where
         running tally (ap (λ (c : Objects). rules_header c None) over_is) (lines_are ∙ ap (λ (m : Seen (List Kind) Op). m.count + 1) new_is) refl in
         subst (λ (sc : InputScan). IsRunning sc tally new) (sym (scan_is n low high)) (subst (λ (m : Seen (List Kind) Op). IsRunning (scanned n) tally m) (sym new_is) there)
 
-    -- The counter rose at least by what the steps of the run cost at least.
+    -- The counter rose by at least what the steps of the run cost at least.
     pub counted_least : OfRun (drill_scan n).header (drill_scan n).records (λ start ss. from + singles ss ≤ to)
     counted_least = of_run n low high (λ start ss. from + singles ss ≤ to) (subst (λ (w : List (Step Op)). from + singles w ≤ to) all done.least)
 
-  -- ---- what it costs
+  -- ---- the cost of the run
 
   -- If the counter rose within the upper bound of the machine's steps, it is within that of the input.
   pub counted_most : (from to : ℕ) (machine : Seen (List Kind) Op) (list : List (Step Op)) → list ≡ steps → machine ≡ unmoved → CostAtMost objects place_of machine list from to → StepsCostAtMost (drill_scan n) from to

@@ -18,7 +18,7 @@ pairs_length (suc p) =
 unpaired_length : (p a : ℕ) → length (unpaired (suc p) a) ≡ 11
 unpaired_length p a = refl
 
--- with a transaction that is left over
+-- The length of the run of an odd number of transactions.
 odd_length : (q a : ℕ) → length (pairs q ++ unpaired q a) ≡ 17 * q + 10
 odd_length zero a = refl
 odd_length (suc p) a =

@@ -13,7 +13,7 @@ adds_as old new steps others is same = is ∙ ap (λ (ss : List (Step Op)). mean
 adds_both : (old mid new : List (StepOf Op)) (steps more : List (Step Op)) → Adds old mid steps → Adds mid new more → Adds old new (steps ++ more)
 adds_both old mid new steps more first next = next ∙ ap (λ (ss : List (Step Op)). ss ++ more) first ∙ append_assoc (meanings old) steps more
 
--- the pull of a first transaction
+-- The PULL of the first transaction of a pair, if there are pairs before it.
 pulls_at : (p a : ℕ) → 1 ≤ p → Pull (name_of a) (id_of (2 * p - 1) 2) ∷ [] ≡ pulls p a
 pulls_at zero a h = absurd (omega arith)
 pulls_at (suc q) a h = let e : 2 * suc q - 1 ≡ 2 * q + 1 = omega arith in ap (λ (k : ℕ). Pull (name_of a) (id_of k 2) ∷ []) e
@@ -22,7 +22,7 @@ pulls_at (suc q) a h = let e : 2 * suc q - 1 ≡ 2 * q + 1 = omega arith in ap (
 pub one_pull : (p a : ℕ) (old new : List (StepOf Op)) (step : Step Op) → 1 ≤ p → step ≡ Pull (name_of a) (id_of (2 * p - 1) 2) → Adds old new (step ∷ []) → Adds old new (pulls p a)
 one_pull p a old new step h is adds = adds_as old new (step ∷ []) (pulls p a) adds (ap (λ (s : Step Op). s ∷ []) is ∙ pulls_at p a h)
 
--- one more pair
+-- The steps of p pairs and those of the next pair are the steps of p + 1 pairs.
 pub one_more_pair : (old new : List (StepOf Op)) (p : ℕ) → meanings old ≡ pairs p → Adds old new (pair p (2 * p + 1) (2 * p + 2)) → meanings new ≡ pairs (p + 1)
 one_more_pair old new p so_far next = next ∙ ap (λ (ss : List (Step Op)). ss ++ pair p (2 * p + 1) (2 * p + 2)) so_far ∙ ap pairs (sym (add-one p))
 
@@ -44,7 +44,7 @@ pair_added p a b old l1 l2 l3 l4 new x y s3 s4 s5 ea eb ex ey e3 e4 e5 h1 h2 h3 
     (adds_both l3 l4 new second ends (adds_as l3 l4 s4 second h4 e4) (adds_as l4 new s5 ends h5 e5)))) in
     all ∙ ap (λ (k : ℕ). meanings old ++ pair p k b) ea ∙ ap (λ (k : ℕ). meanings old ++ pair p (2 * p + 1) k) eb
 
--- a transaction without a second
+-- The steps of a single transaction are added part by part.
 pub unpaired_added : (p a : ℕ) (old l1 l2 l3 new : List (StepOf Op)) (x : Step Op) (s3 s4 : List (Step Op)) → a ≡ 2 * p + 1
     → x ≡ Begin (name_of a) first_thread None → s3 ≡ first_apps p a → s4 ≡ ending a
     → Adds old l1 (x ∷ []) → Adds l1 l2 (pulls p a) → Adds l2 l3 s3 → Adds l3 new s4
@@ -59,6 +59,6 @@ unpaired_added p a old l1 l2 l3 new x s3 s4 ea ex e3 e4 h1 h2 h3 h4 =
     (adds_both l2 l3 new first ends (adds_as l2 l3 s3 first h3 e3) (adds_as l3 new s4 ends h4 e4))) in
     all ∙ ap (λ (k : ℕ). meanings old ++ unpaired p k) ea
 
--- the whole
+-- The steps of all pairs and of the single transaction are the steps of the run.
 pub whole : (n : ℕ) (paired all : List (StepOf Op)) → meanings paired ≡ pairs (n / 2) → Adds paired all (left_over (n % 2) (n / 2)) → meanings all ≡ drill_steps n
 whole n paired all first next = next ∙ ap (λ (ss : List (Step Op)). ss ++ left_over (n % 2) (n / 2)) first

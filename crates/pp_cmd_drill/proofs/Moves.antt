@@ -11,7 +11,7 @@ use Rattle.pp_model.proofs.Lists.{in_cases, before_in_second}
 use Rattle.pp_model.proofs.Names.{eq-names}
 use Rattle.pp_model.proofs.Alone.{there_is}
 
--- Each, from its parts and to its elements
+-- Each element of joined lists has a property if each of both lists has it.
 pub each_join : {A : Type 0} (P : A → Type 0) (xs ys : List A) → Each P xs → Each P ys → Each P (xs ++ ys)
 each_join P [] ys h k = k
 each_join P (x ∷ xs) ys h k = (h.0, each_join P xs ys h.1 k)
@@ -27,19 +27,19 @@ pub each_as : {A : Type 0} (P Q : A → Type 0) (xs : List A) → ((x : A) → P
 each_as P Q [] f h = tt
 each_as P Q (x ∷ xs) f h = (f x h.0, each_as P Q xs f h.1)
 
--- the configuration of these parts
+-- The configuration of these parts.
 abbrev pub conf : {Op : Type 0} → List Name → List ℕ → List (Tx Op) → List (SharedEntry Op) → List (CommittedTx Op) → Config Op
 conf ns is xs G D = record { names = ns; ids = is; opened = xs; shared = G; done = D }
 
--- an open transaction without a body
+-- An open transaction without a body.
 abbrev pub open_tx : {Op : Type 0} → Name → Name → List (LocalEntry Op) → Tx Op
 open_tx t p l = record { name = t; thread = p; body = None; local = l }
 
--- an entry of a local log
+-- An entry of a local log.
 abbrev pub own_entry : {Op : Type 0} → Name → Mark → ℕ → Op → LocalEntry Op
 own_entry t m i op = record { id = i; owner = t; mark = m; op = op }
 
--- an entry of the shared log, which is committed or not
+-- An entry of the shared log, which is committed or not.
 abbrev pub shared_entry : {Op : Type 0} → Name → Bool → ℕ → Op → SharedEntry Op
 shared_entry t b i op = record { id = i; owner = t; committed = b; op = op }
 
@@ -53,15 +53,15 @@ pub record Log {Op State : Type 0} (O : Object Op State) (l : List Op) (s : Stat
   pub allowed : Allowed O l
   pub is : state O l ≡ s
 
--- no transaction of the list has this name
+-- No transaction of the list has this name.
 abbrev pub Others : {Op : Type 0} → Name → List (Tx Op) → Type 0
 Others t xs = Each (λ x. (x.name =ⁿ t) ≡ false) xs
 
--- no entry of the local log has this id
+-- No entry of the local log has this id.
 abbrev pub Apart : {Op : Type 0} → ℕ → List (LocalEntry Op) → Type 0
 Apart i l = Each (λ e. (e.id == i) ≡ false) l
 
--- none of them waits to be pushed
+-- No entry of the local log is unpushed.
 abbrev pub Settled : {Op : Type 0} → List (LocalEntry Op) → Type 0
 Settled l = Each (λ e. is_mark e.mark Unpushed ≡ false) l
 
@@ -109,7 +109,7 @@ module _ {Op State : Type 0} (O : Object Op State) where
         is = state-append O.start l k ∙ ap (λ (z : State). state_from O z k) h.is;
       }
 
-  -- the open transaction of the name t among others
+  -- The open transaction of the name t is found among others.
   pub tx_at : (t p : Name) (L : List (LocalEntry Op)) (l r : List (Tx Op)) → Others t l → tx t (l ++ open_tx t p L ∷ r) ≡ Some (open_tx t p L)
   tx_at t p L [] r h = ap (λ (b : Bool). cond b (Some (open_tx t p L)) (tx t r)) (eq-names t t refl)
   tx_at t p L (x ∷ l) r h = ap (λ (b : Bool). cond b (Some x) (tx t (l ++ open_tx t p L ∷ r))) h.0 ∙ tx_at t p L l r h.1
@@ -130,7 +130,7 @@ module _ {Op State : Type 0} (O : Object Op State) where
   without_at t p L [] r h k = ap (λ (b : Bool). cond (not b) (open_tx t p L ∷ without_tx t r) (without_tx t r)) (eq-names t t refl) ∙ without_others t r k
   without_at t p L (x ∷ l) r h k = ap (λ (b : Bool). cond (not b) (x ∷ without_tx t (l ++ open_tx t p L ∷ r)) (without_tx t (l ++ open_tx t p L ∷ r))) h.0 ∙ ap (λ (w : List (Tx Op)). x ∷ w) (without_at t p L l r h.1 k)
 
-  -- the entry of the id i in a local log
+  -- The entry of an id is found after entries of other ids.
   mark_behind : (i : ℕ) (m : Mark) (k l : List (LocalEntry Op)) → Apart i k → at_mark i m (k ++ l) ≡ at_mark i m l
   mark_behind i m [] l h = refl
   mark_behind i m (e ∷ k) l h = ap (λ (b : Bool). cond (b && is_mark e.mark m) (Some e) (at_mark i m (k ++ l))) h.0 ∙ mark_behind i m k l h.1
@@ -149,7 +149,7 @@ module _ {Op State : Type 0} (O : Object Op State) where
   marked_here : (t : Name) (i : ℕ) (op : Op) (l : List (LocalEntry Op)) → Apart i l → set_mark i Pushed (own_entry t Unpushed i op ∷ l) ≡ own_entry t Pushed i op ∷ l
   marked_here t i op l h = ap (λ (b : Bool). cond b (own_entry t Pushed i op) (own_entry t Unpushed i op) ∷ set_mark i Pushed l) (eq-eqb i i refl) ∙ ap (λ (w : List (LocalEntry Op)). own_entry t Pushed i op ∷ w) (marked_apart i Pushed l h)
 
-  -- nothing that waits to be pushed is before it
+  -- No entry of a log has an id that the log does not have.
   apart_in : (i : ℕ) (l : List (LocalEntry Op)) (e : LocalEntry Op) → Apart i l → In e l → e.id ≡ i → ⊥
   apart_in i l e h j k = let f = each_in (λ (x : LocalEntry Op). (x.id == i) ≡ false) l e h j in let g = eq-eqb e.id i k in cc
 
@@ -162,7 +162,7 @@ module _ {Op State : Type 0} (O : Object Op State) where
   none_before a e i l k h (inl b) = apart_in i l e h b.1 k
   none_before a e i l k h (inr b) = apart_in i l e h (before_in_second a e l b) k
 
--- a step of t, which is open among others
+-- A step of t, which is open among others.
 module _ {Op State : Type 0} (O : Object Op State) (ns : List Name) (is : List ℕ) (t p : Name) (l r : List (Tx Op)) (D : List (CommittedTx Op)) (first : Others t l) (last : Others t r) where
   -- An APP of a fresh id adds an unpushed entry to the local log of t, if the operation is allowed in the view of t.
   pub app_step : (seen L : List (LocalEntry Op)) (G : List (SharedEntry Op)) (i : ℕ) (op : Op) (s : State) (ss : List (Step Op)) (e : Config Op) → (In i is → ⊥) → Log O (local_ops seen) s → AllowedFrom O s (local_ops L ++ op ∷ []) →

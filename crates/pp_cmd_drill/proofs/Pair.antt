@@ -18,7 +18,7 @@ use Rattle.pp_cmd_drill.specs.Law.{drill_objects, states_at}
 use Rattle.pp_cmd_drill.proofs.Moves.{conf, open_tx, own_entry, shared_entry, LeadsTo, Log, Others, Apart, Settled, MayCommit, each_join, each_in, each_as, app_step, push_step, cmt_step}
 use Rattle.pp_cmd_drill.proofs.Acts.{first_allowed, both_allowed, value_is, adds_swap, asks_swap, read_add_swap, add_write_swap, read_ask_swap, write_ask_swap, ask_add_swap, add_ask_swap}
 
--- all ids are below n
+-- All ids are below n.
 abbrev pub Under : ℕ → List ℕ → Type 0
 Under n is = Each (λ i. i < n) is
 
@@ -38,15 +38,15 @@ not_eqb i j h = elim (eqb_tells i j) [ inl r ↦ absurd (h r.1) | inr r ↦ r.0 
 pub not_name : (t u : Name) → t ≢ u → (t =ⁿ u) ≡ false
 not_name t u h = elim (names_tell t u) [ inl r ↦ absurd (h r.1) | inr r ↦ r.0 ]
 
--- operations of one transaction
+-- Two operations of one transaction have different ids.
 pub two_ids : (k i j : ℕ) → eqb i j ≡ false → eqb (id_of k i) (id_of k j) ≡ false
 two_ids k i j h = not_eqb (id_of k i) (id_of k j) (λ e. let f : i ≡ j = omega arith in let g = eq-eqb i j f in cc)
 
--- all these shared entries are committed
+-- All these shared entries are committed.
 abbrev pub AllCommitted : List (SharedEntry Op) → Type 0
 AllCommitted G = Each (λ g. g.committed ≡ true) G
 
--- What a has pulled: nothing, or what leads to a memory with p at 0.
+-- What a has pulled: nothing, or operations that lead to a memory with p at 0.
 pub record View (a p : ℕ) (G : List (SharedEntry Op)) (seen : List (LocalEntry Op)) : Type 0 where
   pub log : Log drill_objects (local_ops seen) (states_at p 0)
   pub apart : (i : ℕ) → 0 < i → Apart (id_of a i) seen
@@ -69,36 +69,36 @@ still t (g ∷ G) h =
 pub may_still : (G H : List (SharedEntry Op)) (l : List (LocalEntry Op)) → Each (MayCommit G) l → Each (MayCommit (G ++ H)) l
 may_still G H l h = each_as (MayCommit G) (MayCommit (G ++ H)) l (λ e k. (k.0, λ m. let r = k.1 m in (r.0, in_left r.0 G H r.1, r.2, r.3))) h
 
--- the own entries of the first transaction of a pair, with their marks
+-- The own entries of the first transaction of a pair, with their marks.
 abbrev pub own_first : ℕ → ℕ → (m1 m2 m3 m4 : Mark) → List (LocalEntry Op)
 own_first p a m1 m2 m3 m4 =
     own_entry (name_of a) m1 (id_of a 1) (read p) ∷ own_entry (name_of a) m2 (id_of a 2) (write (suc p)) ∷ own_entry (name_of a) m3 (id_of a 3) (add a) ∷ own_entry (name_of a) m4 (id_of a 4) (ask a) ∷ []
 
--- the own entries of the second transaction of a pair, with their marks
+-- The own entries of the second transaction of a pair, with their marks.
 abbrev pub own_second : ℕ → (m1 m2 : Mark) → List (LocalEntry Op)
 own_second b m1 m2 = own_entry (name_of b) m1 (id_of b 1) (add b) ∷ own_entry (name_of b) m2 (id_of b 2) (ask b) ∷ []
 
--- the committed entries of the first transaction of a pair
+-- The committed entries of the first transaction of a pair.
 abbrev pub items_first : ℕ → ℕ → List (Item Op)
 items_first p a = record { id = id_of a 1; op = read p } ∷ record { id = id_of a 2; op = write (suc p) } ∷ record { id = id_of a 3; op = add a } ∷ record { id = id_of a 4; op = ask a } ∷ []
 
--- the committed entries of the second transaction of a pair
+-- The committed entries of the second transaction of a pair.
 abbrev pub items_second : ℕ → List (Item Op)
 items_second b = record { id = id_of b 1; op = add b } ∷ record { id = id_of b 2; op = ask b } ∷ []
 
--- the first transaction of a pair as it was committed
+-- The first transaction of a pair as it was committed.
 abbrev pub done_first : ℕ → ℕ → CommittedTx Op
 done_first p a = record { name = name_of a; entries = items_first p a }
 
--- the second transaction of a pair as it was committed
+-- The second transaction of a pair as it was committed.
 abbrev pub done_second : ℕ → CommittedTx Op
 done_second b = record { name = name_of b; entries = items_second b }
 
--- the shared entries of the first transaction of a pair alone, committed or not
+-- The shared entries of the first transaction of a pair alone, committed or not.
 abbrev pub shared_first : ℕ → ℕ → Bool → List (SharedEntry Op)
 shared_first p a x = shared_entry (name_of a) x (id_of a 1) (read p) ∷ shared_entry (name_of a) x (id_of a 2) (write (suc p)) ∷ shared_entry (name_of a) x (id_of a 3) (add a) ∷ shared_entry (name_of a) x (id_of a 4) (ask a) ∷ []
 
--- the shared entries of a pair, where x says whether a's are committed, and y whether b's are
+-- The shared entries of a pair. The boolean x says whether those of a are committed, and y whether those of b are.
 abbrev pub shared_both : ℕ → ℕ → ℕ → Bool → Bool → List (SharedEntry Op)
 shared_both p a b x y =
     shared_entry (name_of a) x (id_of a 1) (read p)
@@ -109,15 +109,15 @@ shared_both p a b x y =
     ∷ shared_entry (name_of a) x (id_of a 4) (ask a)
     ∷ []
 
--- these ids and those of the first transaction of a pair
+-- These ids and those of the first transaction of a pair.
 abbrev pub ids_first : ℕ → List ℕ → List ℕ
 ids_first a is = id_of a 4 ∷ id_of a 3 ∷ id_of a 2 ∷ id_of a 1 ∷ is
 
--- these ids and those of the second transaction of a pair
+-- These ids and those of the second transaction of a pair.
 abbrev pub ids_second : ℕ → List ℕ → List ℕ
 ids_second b is = id_of b 2 ∷ id_of b 1 ∷ is
 
--- the four operations of a
+-- The four operations of a lead on from here.
 pub apps_lead : (p a : ℕ) (ns : List Name) (is : List ℕ) (r : List (Tx Op)) (G : List (SharedEntry Op)) (D : List (CommittedTx Op)) (seen : List (LocalEntry Op)) (ss : List (Step Op)) (e : Config Op) →
     Others (name_of a) r → Under (id_of a 1) is → Log drill_objects (local_ops seen) (states_at p 0) →
     LeadsTo drill_objects (conf ns (ids_first a is) (open_tx (name_of a) first_thread (seen ++ own_first p a Unpushed Unpushed Unpushed Unpushed) ∷ r) G D) ss e →
@@ -141,7 +141,7 @@ apps_lead p a ns is r G D seen ss e others under log h =
     (fresh (id_of a 4) (id_of a 3 ∷ id_of a 2 ∷ id_of a 1 ∷ is) u4) log (k.0, (k.1.0, (k.1.1.0, (k.1.1.1.0, tt))))
     h)))
 
--- a's and b's steps while both are open, from here: the own entries A of a and B of b, and what the pair has pushed
+-- The steps of a and b while both are open, with the own entries A of a and B of b, and with what the pair has pushed.
 module _ (p x a b : ℕ) (ns : List Name) (is : List ℕ) (G : List (SharedEntry Op)) (D : List (CommittedTx Op)) (seen : List (LocalEntry Op))
     (view : View a p G seen) (all : AllCommitted G) (log : Log drill_objects (shared_ops G) (states_at p x)) (apart : name_of a ≢ name_of b) where
   abbrev both_open : (A B : List (LocalEntry Op)) → List (SharedEntry Op) → Config Op
@@ -199,7 +199,7 @@ module _ (p x a b : ℕ) (ns : List Name) (is : List ℕ) (G : List (SharedEntry
       ((λ n. absurd (n refl)), ((λ n. add_ask_swap a b), ((λ n. absurd (n refl)), ((λ n. asks_swap b a), ((λ n. absurd (n refl)), tt))))) k
       h)))))
 
-  -- the two commits
+  -- The two commits.
   second_commits : commit_all (name_of b) (G ++ shared_both p a b false false) ≡ G ++ shared_both p a b false true
   second_commits = map-append _ G (shared_both p a b false false) ∙ ap (λ (w : List (SharedEntry Op)). w ++ commit_all (name_of b) (shared_both p a b false false)) (still (name_of b) G all) ∙ rw (not_a, eq-names (name_of b) (name_of b) refl) refl
 
@@ -225,7 +225,7 @@ module _ (p x a b : ℕ) (ns : List Name) (is : List ℕ) (G : List (SharedEntry
       first_commits
       h)
 
--- a alone: its pushes and its commit
+-- The steps of a alone: its pushes and its commit.
 module _ (p x a : ℕ) (ns : List Name) (is : List ℕ) (G : List (SharedEntry Op)) (D : List (CommittedTx Op)) (seen : List (LocalEntry Op))
     (view : View a p G seen) (all : AllCommitted G) (log : Log drill_objects (shared_ops G) (states_at p x)) where
   abbrev one_open : List (LocalEntry Op) → List (SharedEntry Op) → Config Op

@@ -1,4 +1,4 @@
--- What the configuration is after some pairs, and that one more pair, or a transaction alone, leads on from it.
+-- The configuration after some pairs. One more pair leads on from it, and so does a single transaction.
 use Rattle.std.proofs.Common.{◌≡◌, ◌≢◌, ℕ, zero, suc, ◌+◌, ◌*◌, ◌<◌, ◌≤◌, eqb, Bool, true, false, not, cond, ◌&&◌, List, [], ◌∷◌, ◌++◌, length, Some, None, refl, sym, ap, subst, ◌∙◌, inl, inr, pos, arith, append_assoc}
 use Rattle.std.proofs.lemmas.Bool.{eq-eqb}
 use Rattle.std.proofs.lemmas.Fmt.{decimal_injective}
@@ -20,27 +20,27 @@ use Rattle.pp_cmd_drill.proofs.Moves.{conf, open_tx, own_entry, shared_entry, Le
 use Rattle.pp_cmd_drill.proofs.Acts.{second_allowed, both_allowed, in_order_allowed, first_allowed, value_is, at_start, after_both, after_order, after_first, of_both, of_first, in_order}
 use Rattle.pp_cmd_drill.proofs.Pair.{Under, fresh, under_next, not_eqb, not_name, two_ids, AllCommitted, View, own_first, own_second, done_first, done_second, shared_first, shared_both, ids_first, ids_second, apps_lead, pushes_lead, commits_lead, unpaired_pushes_lead, unpaired_commit_leads}
 
--- the names that p pairs of transactions used
+-- The names that p pairs of transactions used.
 abbrev pub names_after : ℕ → List Name
 names_after zero = []
 names_after (suc p) = name_of (2 * p + 2) ∷ name_of (2 * p + 1) ∷ names_after p
 
--- the ids that p pairs of transactions used
+-- The ids that p pairs of transactions used.
 abbrev pub ids_after : ℕ → List ℕ
 ids_after zero = []
 ids_after (suc p) = ids_second (2 * p + 2) (ids_first (2 * p + 1) (ids_after p))
 
--- the shared log after p pairs of transactions
+-- The shared log after p pairs of transactions.
 abbrev pub shared_after : ℕ → List (SharedEntry Op)
 shared_after zero = []
 shared_after (suc p) = shared_after p ++ shared_both p (2 * p + 1) (2 * p + 2) true true
 
--- the transactions that p pairs committed, in their order
+-- The transactions that p pairs committed, in their order.
 abbrev pub done_after : ℕ → List (CommittedTx Op)
 done_after zero = []
 done_after (suc p) = (done_after p ++ done_second (2 * p + 2) ∷ []) ++ done_first p (2 * p + 1) ∷ []
 
--- the configuration after p pairs, without an open transaction
+-- The configuration after p pairs, without an open transaction.
 abbrev pub after_pairs : ℕ → Config Op
 after_pairs p = conf (names_after p) (ids_after p) [] (shared_after p) (done_after p)
 
@@ -48,7 +48,7 @@ after_pairs p = conf (names_after p) (ids_after p) [] (shared_after p) (done_aft
 pub one_name : (i k : ℕ) → i ≤ 20000 → k ≤ 20000 → name_of i ≡ name_of k → i ≡ k
 one_name i k h j e = let d : decimal i ≡ decimal k = cc in decimal_injective i k (omega arith) (omega arith) d
 
--- a name of a transaction before n
+-- A name of a transaction before n.
 abbrev Known : ℕ → Name → Type 0
 Known n t = (k : ℕ) × (k < n) × (t ≡ name_of k)
 
@@ -59,7 +59,7 @@ known (suc p) = ((2 * p + 2, omega arith, refl), ((2 * p + 1, omega arith, refl)
 unknown : (n : ℕ) (ns : List Name) → n ≤ 20000 → Each (Known n) ns → In (name_of n) ns → ⊥
 unknown n ns h k j = let r = each_in (Known n) ns (name_of n) k j in let e : n ≡ r.0 = one_name n r.0 h (let l = r.1 in omega arith) r.2 in let l = r.1 in omega arith
 
--- ids
+-- The ids that were used.
 under_first : (a n : ℕ) (is : List ℕ) → Under (id_of a 1) is → id_of a 4 < n → Under n (ids_first a is)
 under_first a n is h k = (k, (omega arith, (omega arith, (omega arith, each_as (λ i. i < id_of a 1) (λ i. i < n) is (λ i j. omega arith) h))))
 
@@ -81,7 +81,7 @@ all_after : (p : ℕ) → AllCommitted (shared_after p)
 all_after zero = tt
 all_after (suc p) = each_join (λ g. g.committed ≡ true) (shared_after p) (shared_both p (2 * p + 1) (2 * p + 2) true true) (all_after p) (refl, (refl, (refl, (refl, (refl, (refl, tt))))))
 
--- the logs
+-- The logs after p pairs.
 log_after : (p : ℕ) → Log drill_objects (shared_ops (shared_after p)) (states_at p (sum_to (2 * p)))
 log_after zero = record { allowed = tt; is = sym at_start }
 log_after (suc p) =
@@ -148,7 +148,7 @@ last_stands q t h =
     ∙ other_behind t i k (last_write q ∷ l) (two_ids a 1 2 refl, (not_eqb (id_of b 1) i (λ e. omega arith), tt))
     ∙ other_here t (last_write q) l h
 
--- What a pulls, and what it then sees.
+-- What a pulls, and what it sees after that.
 pub record Pulls (p a : ℕ) (G : List (SharedEntry Op)) : Type 0 where
   pub seen : List (LocalEntry Op)
   pub view : View a p G seen
@@ -183,7 +183,7 @@ empty_log = record { allowed = tt; is = refl }
 one_thread : first_thread ≢ second_thread
 one_thread e = let k : (first_thread =ⁿ second_thread) ≡ true = eq-names first_thread second_thread e in cc
 
--- One more pair.
+-- One more pair leads from the configuration after p pairs to the one after p + 1.
 pair_leads : (p : ℕ) → 2 * p + 2 ≤ 20000 → LeadsTo drill_objects (after_pairs p) (pair p (2 * p + 1) (2 * p + 2)) (after_pairs (suc p))
 pair_leads p n =
     let a = 2 * p + 1 in
@@ -226,7 +226,7 @@ pub pairs_lead : (p : ℕ) → 2 * p ≤ 20000 → LeadsTo drill_objects (first 
 pairs_lead zero h = nothing_more drill_objects (first None)
 pairs_lead (suc p) h = in_turn drill_objects (first None) (after_pairs p) (after_pairs (suc p)) (pairs p) (pair p (2 * p + 1) (2 * p + 2)) (pairs_lead p (omega arith)) (pair_leads p (omega arith))
 
--- A transaction alone behind the pairs.
+-- The configuration after p pairs and a single transaction.
 abbrev pub after_unpaired : ℕ → Config Op
 after_unpaired p =
     conf (name_of (2 * p + 1) ∷ names_after p) (ids_first (2 * p + 1) (ids_after p)) [] (shared_after p ++ shared_first p (2 * p + 1) true) (done_after p ++ done_first p (2 * p + 1) ∷ [])

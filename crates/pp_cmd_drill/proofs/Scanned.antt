@@ -27,15 +27,15 @@ use Rattle.pp_cmd_drill.specs.Law.{drill_objects}
 use Rattle.pp_cmd_drill.specs.Reports.{drill_scan}
 use Rattle.pp_cmd_drill.specs.Text.{drill_header}
 
--- the header of the drill, on line 1
+-- The header of the drill, on line 1.
 abbrev pub head : Lined Header
 head = record { line = 1; what = drill_header }
 
--- the steps of the drill, each on its line after the header
+-- The steps of the drill, each on its line after the header.
 abbrev pub lined : ℕ → LinedSteps Op
 lined n = numbered 1 (drill_steps n)
 
--- the scan of the drill: its header, and its steps as records, without a fault
+-- The scan of the drill: its header, and its steps as records, without a fault.
 abbrev pub scanned : ℕ → InputScan
 scanned n = record { header = Some head; records = plain (lined n); fault = None }
 
@@ -47,7 +47,7 @@ same_steps n = bare_numbered 1 (drill_steps n)
 pub same_length : (n : ℕ) → length (lined n) ≡ length (drill_steps n)
 same_length n = sym (length_bare (lined n)) ∙ ap (λ (w : List (Step Op)). length w) (same_steps n)
 
--- how many of the records begin a transaction
+-- How many of the records begin a transaction.
 begun_by : (b : Bool) (r : Lined (RunRecord Op)) (rs : List (Lined (RunRecord Op))) (m : ℕ) → length rs ≡ m → length (cond b (r ∷ rs) rs) ≡ cond b (1 + m) m
 begun_by true r rs m e = omega (arith, e)
 begun_by false r rs m e = e
@@ -71,14 +71,14 @@ module _ (n : ℕ) (low : 1 ≤ n) (high : n ≤ 20_000) where
   pub few : length (drill_steps n) ≤ 200_000
   few = (drill_reads n low high).statable.few
 
-  -- the steps are the run of the records, and they have no other
+  -- The steps are the run of the records, and the records have no other run.
   hold : RunsFrom drill_objects (first None) (bare (lined n))
   hold = subst (λ (w : List (Step Op)). RunsFrom drill_objects (first None) w) (sym (same_steps n)) (drill_accepted n low high).runs
 
   run_is : IsRun drill_objects (translation_of drill_header) None (plain (lined n)) (lined n)
   run_is = ((rules_law drill_objects).run place_of drill_kinds None (lined n) (lined n) refl).1 (ends_whole drill_objects (first None) (lined n) hold)
 
-  -- What is so without a start and for the steps of the run is so for every run of the input.
+  -- What is true without a start and for the steps of the run is true for every run of the input.
   pub of_run : (P : Option (Start Op) → List (Step Op) → Type 0) → P None (drill_steps n) → OfRun (drill_scan n).header (drill_scan n).records P
   of_run P p =
       subst (λ (sc : InputScan). OfRun sc.header sc.records P) (sym scan_is) (λ run is.

@@ -1,4 +1,4 @@
--- What is shown of the states that the run leaves.
+-- The text of the states in which the run ends.
 use Rattle.std.proofs.Common.{◌≡◌, ℕ, ◌≤◌, ℤ, pos, int_eq, Bool, false, if◌then◌else◌, List, [], ◌∷◌, ◌++◌, map, codes, length, refl, ap, ◌∙◌, arith}
 use Rattle.std.proofs.lemmas.Fmt.{decimal_digit}
 use Rattle.std.proofs.lemmas.Int.{ints}

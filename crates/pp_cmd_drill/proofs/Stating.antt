@@ -26,11 +26,11 @@ use Rattle.pp_cmd_drill.specs.Text.{drill_header, IsReadBack}
 use Rattle.pp_cmd_drill.proofs.Lengths.{drill_length}
 use Rattle.pp_cmd_drill.proofs.Moves.{each_join}
 
--- each of these steps can be stated
+-- Each of these steps can be stated.
 abbrev pub AreStatable : List (Step Op) → Type 0
 AreStatable steps = Each (IsStatable drill_catalog) steps
 
--- names
+-- Names.
 digit_byte : (d : ℕ) → d < 10 → is_name_byte (48 + d) ≡ true
 digit_byte d h = grind (arith, nat_tests)
 
@@ -50,14 +50,14 @@ is_name k h =
       bytes = digit_bytes k (omega arith);
     }
 
--- numbers
+-- Numbers.
 is_ranged : (v : ℕ) → v ≤ 20000 → in_range (pos v) ≡ true
 is_ranged v h = grind (arith, nat_tests)
 
 is_id : (k i : ℕ) → k ≤ 20000 → i ≤ 4 → IsId (id_of k i)
 is_id k i h j = omega arith
 
--- the steps of two transactions
+-- The steps of two transactions can be stated.
 pulls_stated : (p a : ℕ) → a ≡ 2 * p + 1 → a ≤ 20000 → AreStatable (pulls p a)
 pulls_stated zero a e h = tt
 pulls_stated (suc q) a e h = ((is_name a h, is_id (2 * q + 1) 2 (omega arith) (omega arith)), tt)
@@ -139,7 +139,7 @@ steps_stated n high =
     let r = n % 2 in
     each_join (IsStatable drill_catalog) (pairs q) (left_over r q) (pairs_stated q (omega arith)) (left_stated r q (omega arith))
 
--- how many of them begin a transaction
+-- How many of the steps begin a transaction.
 abbrev pub begins : List (Step Op) → ℕ
 begins [] = 0
 begins (s ∷ ss) = cond (is_begin s) (1 + begins ss) (begins ss)
@@ -185,7 +185,7 @@ drill_begins n =
     let h = begins_are (drill_steps n) in
     omega arith
 
--- the catalog
+-- The objects of the catalog.
 found_at : (i : ℕ) (name : List ℕ) → slice_get (keys_of drill_catalog) i ≡ Some name → place_of name drill_catalog ≡ Some i
 found_at zero name e = let f : codes "m" ≡ name = cc in subst (λ (x : List ℕ). place_of x drill_catalog ≡ Some 0) f refl
 found_at (suc zero) name e = let f : codes "c" ≡ name = cc in subst (λ (x : List ℕ). place_of x drill_catalog ≡ Some 1) f refl
@@ -223,7 +223,7 @@ drill_statable n low high =
       begins = let b = drill_begins n in omega arith;
     }
 
--- the lines of the steps
+-- The lines of the steps are read back one by one.
 read_in_turn : (ss : List (Step Op)) → AreStatable ss → map (record_of drill_header) (map (step_bytes drill_catalog) ss) ≡ map (λ step. Ok (Plain step)) ss
 read_in_turn [] h = refl
 read_in_turn (s ∷ ss) h =

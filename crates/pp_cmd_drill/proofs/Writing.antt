@@ -14,7 +14,7 @@ use Rattle.pp_cmd_drill.specs.Drill.{drill_catalog, drill_steps}
 use Rattle.pp_cmd_drill.specs.Text.{drill_text}
 use Rattle.pp_cmd_drill.proofs.Stating.{AreStatable, steps_stated}
 
--- what can be stated can be written
+-- Steps that can be stated can be written.
 written : (steps : List (Step Op)) → AreStatable steps → Each (IsWritable drill_catalog) steps
 written [] h = tt
 written (Begin t p None ∷ ss) h = (tt, written ss h.1)

@@ -35,7 +35,7 @@ use Rattle.pp_judge.proofs.Running.{is_run_so_far, rejected_sound, run_so_far, r
 pub fault_expanded : (bytes : List ℕ) (line : ℕ) (cause : Cause) (text : List ℕ) → IsFaultOf (scan bytes) (Some (line, cause)) → text ≡ fault_text line cause → IsExpanded bytes statuses.InputFault text
 fault_expanded bytes line cause text faulty is = (text, fault_report bytes line cause text faulty is, refl)
 
--- the text of the steps of a run
+-- The text of the steps of a run.
 abbrev WritesRun : Header → Records (RunRecord Op) → List ℕ → Type 0
 WritesRun h rs text = (run : LinedSteps Op) → IsRun (object_of h) (translation_of h) (start_of h) rs run → text ≡ run_text h.catalog h.start (bare run)
 

@@ -1,4 +1,4 @@
--- What is told of a conclusion, and what it costs with the serial run.
+-- The text of a conclusion, and what it costs together with the serial run.
 use Rattle.std.specs.Prelude.{◌≡◌, ◌≤◌, ◌<◌, ◌+◌, ℕ, List, length, map, Option, None, Some}
 use Rattle.std.proofs.Common.{refl, sym, ap, ◌∙◌, subst, arith}
 use mathlib.Core.Logic.{inl, inr}
@@ -44,7 +44,7 @@ use Rattle.pp_cmd_quick.proofs.Readers.{committed_are}
 pub few_serial : (a b k : ℕ) → a ≡ b → b ≤ k + 256 → k ≤ 4_294_967_294 → a < 4_294_967_552
 few_serial a b k x y z = omega (arith, x, y, z)
 
--- ---- what the summary as a judge says
+-- ---- what the summary as a judge concludes
 
 -- If the summary as a judge found the start and the records good, they are good with this Quick.
 pub good_of : (sc : InputScan) (tally : Tally) (judge : Decider) → findings.AreGood quick_judging sc tally judge → AreGood sc tally judge.quick
@@ -54,7 +54,7 @@ good_of sc tally judge g = record { follows = g.follows; good = g.good }
 pub failed_of : (sc : InputScan) (tally : Tally) (failed : RejectedLine) → findings.AreRejected quick_judging sc tally failed → HasFailed sc tally failed.line
 failed_of sc tally failed b = record { follows = b.follows; style = b.bad.0; fails = b.bad.1 }
 
--- ---- what is told
+-- ---- the text
 
 -- The text of the fault of an input is its output, with status input fault.
 pub faulty_told : (bytes : List ℕ) (line : ℕ) (cause : Cause) (text : List ℕ) → quick_fault (scan bytes) ≡ Some (line, cause) → text ≡ fault_text line cause → IsQuick bytes statuses.InputFault text
@@ -64,7 +64,7 @@ faulty_told bytes line cause text is text_is = (
   (refl, text_is),
 )
 
--- records without a fault
+-- If the records have no fault, the decision about them is the decision about the input.
 behind_none : (sc : InputScan) (header : Lined Header) (decision : Decision) → quick_fault sc ≡ None → sc.header ≡ Some header → IsDecisionOf header sc.records decision → IsDecision sc decision
 behind_none sc header decision none there is = subst (λ (o : Option (ℕ × Cause)). IsDecisionBehind o sc decision) (sym none) (header, there, is)
 
@@ -97,7 +97,7 @@ module _ (sc : InputScan) (tally : Tally) (quick : Held (List Kind) Op) (c : Are
   abbrev as' : List (Attempt Op)
   as' = attempts (start_of h) (bare (steps_behind h sc.records))
 
-  -- the text of what a Quick committed
+  -- The text of the transactions that a Quick committed.
   pub acceptance_told : (count : ℕ) (D : List (CommittedTx Op)) (states : List ObjectState) (text : List ℕ) → count ≡ quick.count → D ≡ quick.brief.done
       → states ≡ state_after objects (kinds_of h.catalog) (serial_ops D) → text ≡ quick_accepted_text h.catalog count D states → IsDecisionTold sc.header (acceptance h sc.records) statuses.Accepted text
   acceptance_told count D states text count_is D_is state_is text_is =
@@ -116,7 +116,7 @@ module _ (sc : InputScan) (tally : Tally) (quick : Held (List Kind) Op) (c : Are
         ),
       )
 
-  -- ---- what the serial run costs
+  -- ---- the cost of the serial run
 
   run_is : IsRun (object_of h) (translation_of h) (start_of h) sc.records (steps_behind h sc.records)
   run_is =
@@ -135,7 +135,7 @@ module _ (sc : InputScan) (tally : Tally) (quick : Held (List Kind) Op) (c : Are
       let same : all ≡ run = (one_run_law (object_of h) (translation_of h)).run (start_of h) sc.records all run run_is is in
       subst (λ (w : LinedSteps Op). Serial (start_of h) (bare w)) same here)
 
-  -- of any bound on the records
+  -- A bound on the records that are tried, and the cost of the serial run, bound the run.
   most_of : (old now new : ℕ) (o : Option (Lined Header)) (rs : Records (RunRecord Op)) → OfTried o rs (λ most. now ≤ old + most) → new ≤ now + length (serial_ops quick.brief.done) → OfRun o rs (λ start steps. Serial start steps)
       → OfTried o rs (λ most. OfRun o rs (λ start steps. new ≤ old + most + serial_length start steps))
   most_of old now new None rs most cost count = λ run is.
@@ -155,7 +155,7 @@ module _ (sc : InputScan) (tally : Tally) (quick : Held (List Kind) Op) (c : Are
 more_room : (old new a b : ℕ) → new ≤ old + a → new ≤ old + a + b
 more_room old new a b x = omega (arith, x)
 
--- without a serial run
+-- A bound on the records that are tried is a bound without a serial run.
 no_serial_of : (old new : ℕ) (o : Option (Lined Header)) (rs : Records (RunRecord Op)) → OfTried o rs (λ most. new ≤ old + most) → OfTried o rs (λ most. OfRun o rs (λ start steps. new ≤ old + most + serial_length start steps))
 no_serial_of old new None rs most = λ run is. more_room old new 0 (serial_length None (bare run)) most
 no_serial_of old new (Some header) rs most = λ tried k run is. more_room old new (tried_most header.what tried) (serial_length (start_of header.what) (bare run)) (most tried k)

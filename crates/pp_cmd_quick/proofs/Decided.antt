@@ -33,7 +33,7 @@ module _ (header : Lined Header) (rs : Records (RunRecord Op)) where
   abbrev O_law : FailureLaw (object_of header.what) (translation_of header.what)
   O_law = failure_law (object_of header.what) (translation_of header.what)
 
-  -- ---- one decision at most
+  -- ---- at most one decision
 
   one_line : (m n : ℕ) → FailsOn header rs m → FailsOn header rs n → m ≡ n
   one_line m n (inl a) (inl b) = a.1 ∙ sym b.1
@@ -48,7 +48,7 @@ module _ (header : Lined Header) (rs : Records (RunRecord Op)) where
   one_of d e (inr a) (inl b) = absurd (none_fails header rs a.0 b.0 a.1)
   one_of d e (inr a) (inr b) = a.2 ∙ ap (λ (n : ℕ). Rejects n) (one_line a.0 b.0 a.1 b.1) ∙ sym b.2
 
-  -- ---- some
+  -- ---- at least one decision
 
   some_decision : ((d : Decision) → IsDecisionOf header rs d → ⊥) → ⊥
   some_decision nowhere =
@@ -61,7 +61,7 @@ module _ (header : Lined Header) (rs : Records (RunRecord Op)) where
   some_of nowhere =
       some_decision (λ d is. some_verdict (object_of header.what) (start_of header.what) (bare (steps_behind header.what rs)) (λ v verdict. nowhere d v is verdict))
 
-  -- ---- the verdict
+  -- ---- the decision is the verdict of all steps
 
   told_failing : (line : ℕ) (d : Decision) (v : Verdict) → FailsOn header rs line → d ≡ Rejects line → IsVerdictBehind header.what rs v → TellsVerdict header rs v d
   told_failing line d v (inl k) is verdict =
@@ -78,7 +78,7 @@ module _ (header : Lined Header) (rs : Records (RunRecord Op)) where
       subst (λ (w : Verdict). TellsVerdict header rs w d) same a.1
   told_verdict d v (inr a) verdict = told_failing a.0 d v a.1 a.2 verdict
 
-  -- ---- the report of `certify`
+  -- ---- the decision is what `certify` reports
 
   same_of : (v : Verdict) (report : RunReport) (d : Decision) → IsReportOf (setting_of header) (steps_behind header.what rs) v report → TellsVerdict header rs v d → IsSameDecision report d
   same_of Accepted report d k t = subst (λ (w : RunReport). IsSameDecision w d) (sym k) (length rs, t)
@@ -87,7 +87,7 @@ module _ (header : Lined Header) (rs : Records (RunRecord Op)) where
       subst (λ (w : RunReport). IsSameDecision w d) (sym k.2)
       (t.2 ∙ ap (λ (s : Lined (Step Op)). Rejects s.line) (same_Some t.0 k.0 (sym t.1 ∙ k.1)))
 
--- ---- of an input
+-- ---- the decision about an input
 
 one_decision : (sc : InputScan) (d e : Decision) → IsDecision sc d → IsDecision sc e → d ≡ e
 one_decision sc d e x y = by (quick_fault sc) x y
@@ -135,7 +135,7 @@ agrees sc header report d there style (fault, is, told) decision = by fault is t
     by None (inl k) t = absurd (let e : None ≡ Some (k.0, TooManySteps) = k.2 in cc)
     by None (inr k) t = without (sym k.1) t
 
--- An input has one output at most, and its decision is the verdict of all its steps; of a boosted run it is what `certify` reports.
+-- An input has at most one output, and its decision is the verdict of all its steps. For a boosted run it is what `certify` reports.
 pub decided : DecisionLaw
 decided =
     record {

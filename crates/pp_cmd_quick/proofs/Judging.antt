@@ -1,4 +1,4 @@
--- What the summary as a judge says of a start, and of a record more.
+-- What the summary as a judge concludes from a start and from one more record.
 use Rattle.std.specs.Prelude.{◌≡◌, ◌≤◌, ◌<◌, ◌+◌, ℕ, length, true, false, List, [], ◌∷◌, ◌++◌, filter, cond, Bool, Option, None, Some}
 use Rattle.std.proofs.Common.{refl, lit≤, sym, ap, ◌∙◌, subst, arith}
 use Rattle.std.proofs.lemmas.List.{length-append}
@@ -51,7 +51,7 @@ with_none old new s x = omega (arith, x)
 
 -- ---- the start
 
--- no record of an empty list fails
+-- No record of an empty list fails.
 no_parts : {A : Type 0} (b z : List A) (x : A) → [] ≡ b ++ x ∷ z → ⊥
 no_parts [] z x e = absurd (cc)
 no_parts (y ∷ b) z x e = absurd (cc)
@@ -78,7 +78,7 @@ module _ (line : ℕ) (h : Header) where
     pub begun_bad : (quick : Held (List Kind) Op) → StartsQuick h false quick → quick_judging.IsRejectedBy (headed line h) [] (record { line = line })
     begun_bad quick s = (boosted_is h.style boosted, inl (s, refl))
 
-  -- A counter that rises by at most what the start costs at most is within the upper bound of a header without records.
+  -- If a counter rises by at most the cost of the start, it is within the upper bound of a header without records.
   pub begun_twice : (old new : ℕ) → new ≤ old + start_at_most (start_of h) → RecordsCostAtMost (scan_of (headed line h) []) old new
   begun_twice old new cost tried k = subst (λ (l : List (RunRecord Op)). new ≤ old + tried_most h l) (sym k) (with_none old new (start_at_most (start_of h)) cost)
 
@@ -99,14 +99,14 @@ module _ (line : ℕ) (h : Header) where
 abbrev on_line : ℕ → RunRecord Op → Lined (RunRecord Op)
 on_line line r = record { line = line; what = r }
 
--- more records have no fewer operations
+-- More records have at least as many operations.
 ops_append : (xs ys : List (RunRecord Op)) → count_ops xs ≤ count_ops (xs ++ ys)
 ops_append xs ys =
     let all = ap (λ (z : List (RunRecord Op)). length z) (filter-append is_op xs ys) in
     let both = length-append (filter is_op xs) (filter is_op ys) in
     omega (arith, all, both)
 
--- what is before an element of `xs ++ y ∷ []` is the beginning of `xs`
+-- What is before an element of `xs ++ y ∷ []` is the beginning of `xs`.
 front_of : {A : Type 0} (xs b z : List A) (y x : A) → xs ++ y ∷ [] ≡ b ++ x ∷ z → (w : List A) × (xs ≡ b ++ w)
 front_of xs [] z y x e = (xs, refl)
 front_of [] (d ∷ b) z y x e = absurd (no_parts b z x (tails y d [] (b ++ x ∷ z) e))
@@ -126,12 +126,12 @@ pub failed_least : (header : Lined Header) (rs : Records (RunRecord Op)) (it : L
 failed_least header rs it old now new least rises r f =
     fewer_ops old now new (count_ops (bare rs)) (count_ops (bare f.before)) least rises (ops_before rs f.before f.behind it r f.parts)
 
--- a run may have one record more
+-- A run may have one more record.
 pub below_most : (h : Header) (judge : Decider) → MayTake quick_judging h judge → judge.quick.count < 4_294_967_294
 below_most h judge may = let room : length may.1 + 1 < 200_001 = may.3 in omega (arith, may.2.read.count, room)
 
 module _ (h : Header) (judge : Decider) (r : RunRecord Op) (line now new : ℕ) where
-  -- If the counter rises by at most what taking a record costs at most, it is within the upper bound of the record.
+  -- If the counter rises by at most the cost of taking a record, it is within the upper bound of the record.
   pub judges_most : new ≤ now + take_most judge.quick.brief r → CostsAtMostThere quick_judging h judge r line now new
   judges_most cost at rs c old most tried k =
       let B = first_brief h in
@@ -142,7 +142,7 @@ module _ (h : Header) (judge : Decider) (r : RunRecord Op) (line now new : ℕ) 
       let law = (sum_law (object_of h) place_of).next B (bare rs) [] tried r (good_runs h rs judge.quick c) parted in
       tried_next old now new (start_at_most (start_of h)) (records_most place_of B (bare rs)) (take_most judge.quick.brief r) (take_most (brief_after place_of B (bare rs)) r) (records_most place_of B tried) here law same cost
 
-  -- a good one
+  -- If a record is taken, it is judged to be good.
   pub judges_good : (next : Held (List Kind) Op) → judge.quick.count < 4_294_967_294 → IsBoosted r → Takes objects place_of judge.quick r true next → next.shape ≡ judge.quick.shape → TakeCosts judge.quick.brief r true now new
       → Judges quick_judging h judge r line (Good (record { quick = next })) now new
   judges_good next below boosted takes shape cost = record {
@@ -160,7 +160,7 @@ module _ (h : Header) (judge : Decider) (r : RunRecord Op) (line now new : ℕ) 
         subst (λ (n : ℕ). old + n ≤ new) (sym same) (ops_next old now new (count_ops (bare rs)) (count_ops (bare rs ++ r ∷ [])) least more);
   }
 
-  -- one that is not
+  -- If a record is not taken, it is judged to be the one that is rejected.
   pub judges_bad : (next : Held (List Kind) Op) → Takes objects place_of judge.quick r false next → now ≤ new → Judges quick_judging h judge r line (Rejected (record { line = line })) now new
   judges_bad next takes rises = record {
     is = λ at rs c. (c.style, inr (record { line = line; what = r }, fails_next h rs judge.quick c (record { line = line; what = r }) next takes, refl));

@@ -1,4 +1,4 @@
--- What a Quick over the objects of a header says of its records.
+-- What a Quick over the objects of a header proves about the records.
 use Rattle.std.specs.Prelude.{◌≡◌, false, List, ◌∷◌, ◌++◌, [], map, Option}
 use Rattle.std.proofs.Common.{sym, subst}
 use Rattle.pp_core.specs.declared.call.Kind.{Kind}
@@ -34,11 +34,11 @@ use Rattle.pp_cmd_quick.specs.Taking.{AreGoodBehind}
 pub reads : (ks : List Kind) (h : Option (Start Op)) → IsReader objects place_of ks h
 reads ks h = reader objects place_of (apart_of objects place_of SameAt objects_placed) ks h
 
--- what holds of boosted configurations over the objects of a header, and of their briefs
+-- Over the objects of a header, good records keep configurations boosted.
 pub keeps_boosted : (header : Header) → KeepsBoosted (object_of header) place_of
 keeps_boosted header = boosted_law (object_of header) place_of (apart_of objects place_of SameAt objects_placed (kinds_of header.catalog))
 
--- Over the objects of a header, the brief decides whether a record is good and where it leads.
+-- Over the objects of a header, the brief decides whether a record is good, and to which brief it leads.
 pub is_briefed : (header : Header) → IsBriefed (object_of header) place_of
 is_briefed header = briefed (object_of header) place_of (apart_of objects place_of SameAt objects_placed (kinds_of header.catalog))
 
@@ -50,7 +50,7 @@ module _ (h : Header) (rs : Records (RunRecord Op)) (quick : Held (List Kind) Op
   abbrev ks : List Kind
   ks = kinds_of h.catalog
 
-  -- what was committed
+  -- The committed transactions of a Quick are those of the steps.
   pub committed_are : quick.brief.done ≡ map committed_tx (attempts (start_of h) (bare (steps_behind h rs)))
   committed_are =
       subst (λ (s : Style). quick.brief.done ≡ map committed_tx (attempts (start_of h) (bare (all_steps (translation place_of s ks) (start_of h) rs)))) (sym c.style)
@@ -68,7 +68,7 @@ module _ (h : Header) (rs : Records (RunRecord Op)) (quick : Held (List Kind) Op
   pub all_tried : AreTried (object_of h) place_of (first_brief h) (bare rs) (bare rs)
   all_tried = subst (λ (k : List Kind). AreTried (rules_of objects k) place_of (first_brief h) (bare rs) (bare rs)) c.shape ((reads ks (start_of h)).all_tried rs quick c.read)
 
-  -- a record that is not good is the first of which a step fails
+  -- A record that is not good is the first with a step that fails.
   pub fails_next : (r : Lined (RunRecord Op)) (next : Held (List Kind) Op) → Takes objects place_of quick r.what false next → FailsIn (object_of h) (translation_of h) (start_of h) (rs ++ r ∷ []) r
   fails_next r next takes =
       subst (λ (s : Style). FailsIn (object_of h) (translation place_of s ks) (start_of h) (rs ++ r ∷ []) r) (sym c.style)

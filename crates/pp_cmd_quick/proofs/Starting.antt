@@ -1,4 +1,4 @@
--- A Quick that begins with the start of its header, and what records that were read ask of it.
+-- A Quick with the start of its header, and the conditions on records that were read.
 use Rattle.std.specs.Prelude.{◌≡◌, ◌≤◌, ◌+◌, ◌*◌, ℕ, Bool, true, false, List, length, Option, None, Some, option_map, Result, IfOk}
 use Rattle.std.specs.List.{All}
 use Rattle.std.proofs.Common.{refl, sym, ap, subst, ◌∙◌, arith}
@@ -26,7 +26,7 @@ use Rattle.pp_judge.specs.Costs.{start_length}
 use Rattle.pp_judge.specs.Objects.{object_of, start_of}
 use Rattle.pp_cmd_quick.specs.Taking.{StartsQuick}
 
--- ---- what was read may be asked
+-- ---- what was read meets the conditions
 
 step_asked : (catalog : Objects) (step : Step Op) → IsReadableStep catalog step → IsStepAsked step
 step_asked catalog (Begin t p b) h = h
@@ -67,7 +67,7 @@ module _ (header : Header) (quick : Held (List Kind) Op) (new : quick ≡ held_f
   shape_is : quick.shape ≡ ks
   shape_is = ap (λ (q : Held (List Kind) Op). q.shape) new
 
-  -- it is as `new` made it
+  -- The Quick is as `new` made it.
   pub is_first : quick ≡ held_first objects place_of quick.shape None
   is_first = new ∙ ap (λ (k : List Kind). held_first objects place_of k None) (sym shape_is)
 
@@ -77,7 +77,7 @@ module _ (header : Header) (quick : Held (List Kind) Op) (new : quick ≡ held_f
       subst (λ (k : List Kind). All (IsItemAsked objects k) items) (sym shape_is)
       (All-weaker (IsReadableItem header.catalog) (IsItemAsked objects ks) (λ p h. (h.1, h.2)) items all)
 
-  -- without a start
+  -- A header without a start starts the Quick as it is.
   pub none_started : header.start ≡ None → StartsQuick header true quick
   none_started is =
       let none : start_of header ≡ None = ap (λ (z : Option HeaderStart). option_map (λ s. start_with s.tx s.ops) z) is in
@@ -86,7 +86,7 @@ module _ (header : Header) (quick : Held (List Kind) Op) (new : quick ≡ held_f
   one : (z : HeaderStart) → header.start ≡ Some z → start_of header ≡ Some (start_with z.tx z.ops)
   one z is = ap (λ (w : Option HeaderStart). option_map (λ s. start_with s.tx s.ops) w) is
 
-  -- with one
+  -- A header with a start starts the Quick with its operations.
   some_started : (z : HeaderStart) → header.start ≡ Some z → (good : Bool) (after : Held (List Kind) Op) → Starts objects place_of quick (start_with z.tx z.ops) good after → StartsQuick header good after
   some_started z is true after s =
       subst (λ (h : Option (Start Op)). StartMeets (object_of header) h × (after ≡ held_first objects place_of ks h)) (sym (one z is))
@@ -95,10 +95,10 @@ module _ (header : Header) (quick : Held (List Kind) Op) (new : quick ≡ held_f
       subst (λ (h : Option (Start Op)). StartMeets (object_of header) h → ⊥) (sym (one z is))
       (subst (λ (k : List Kind). StartMeets (rules_of objects k) (Some (start_with z.tx z.ops)) → ⊥) shape_is s.0)
 
-  -- the same of what the Quick answers
+  -- If the result of `start` is right for the operations of the header, it is right for the header.
   pub started_result : (z : HeaderStart) → header.start ≡ Some z → (r : Result (Held (List Kind) Op × Bool) OutOfMemory) → IfOk r (λ x. Starts objects place_of quick (start_with z.tx z.ops) x.1 x.0) → IfOk r (λ x. StartsQuick header x.1 x.0)
   started_result z is r s = IfOk-weaker r _ _ (λ x k. some_started z is x.1 x.0 k) s
 
-  -- and of what it costs
+  -- If the cost of `start` is within the number of the operations, it is within the cost of the start of the header.
   pub start_bound : (z : HeaderStart) → header.start ≡ Some z → (old now : ℕ) → now ≤ old + length z.ops → now ≤ old + start_length (start_of header)
   start_bound z is old now bound = subst (λ (h : Option (Start Op)). now ≤ old + start_length h) (sym (one z is)) bound

@@ -1,4 +1,4 @@
--- Proof machinery: the lines of an input, and what it is found to be as a certificate.
+-- Proof machinery: the lines of an input, and the result of checking it as a certificate.
 use Rattle.std.proofs.Common.{◌≡◌, ◌≤◌, ◌+◌, ◌⊎◌, ℕ, Bool, cond, List, length, Option, None, Some}
 use Rattle.std.proofs.Common.{refl, sym, ap, subst, ◌∙◌, arith, inl, inr, lt-ltb, le-ltb}
 use Rattle.std.specs.Io.KnownBytes.{IsAtEnd}
@@ -40,9 +40,9 @@ use Rattle.pp_cmd_recheck.specs.declared.check_input.CheckedInput.TheVariants as
 abbrev Found : Type 0
 Found = Verdict (List Kind) (List ObjectState) Op
 
--- ---- a line that is not taken, or a limit
+-- ---- a line that is refused, or a limit that is exceeded
 module _ (count at : ℕ) (why : Refusal) (within : at ≤ count) where
-  -- no limit comes before it
+  -- No limit is exceeded before the refused line.
   refused_first : (limit : Option (ℕ × Cause))
       → refused_at at why ≡ checked limit count (Refused at why)
   refused_first None = refl
@@ -51,7 +51,7 @@ module _ (count at : ℕ) (why : Refusal) (within : at ≤ count) where
       (le-ltb count at within))
 
 module _ (lines : List (List ℕ)) (now : Checking) (cov : Covers lines now) (limit : ℕ × Cause) where
-  -- all lines are taken, so a limit that is passed is told
+  -- If all lines are taken, a limit that is exceeded is the result.
   limit_by : (o : Option (Shown (List Kind) (List ObjectState) Op))
       → shown_at objects (read_in now).stage ≡ o
       → (v : Found) × IsVerdictOf objects (reader_of lines) lines v
@@ -77,7 +77,7 @@ module _ (lines : List (List ℕ)) (now : Checking) (cov : Covers lines now) (li
       × (Faulty limit.0 limit.1 ≡ checked (Some limit) (length lines) v)
   limit_told = limit_by (shown_at objects (read_in now).stage) refl
 
--- the input is what its first fault says
+-- The result of the input is its first fault.
 fault_is : (first : ℕ) (bytes : List ℕ) (at : ℕ) (fault : CheckFault)
     → HasInputFault (check_reading first) bytes at fault → IsChecked bytes (faulty_at at fault)
 fault_is first bytes at (faults.Cause cause) (inl h) = absurd h
@@ -104,7 +104,7 @@ fault_found first old at fault h bytes is = fault_is first bytes at fault (h byt
 
 -- ---- all lines are taken
 module _ (bytes : List ℕ) (none : overrun usual_limits bytes ≡ None) where
-  -- no limit is passed
+  -- No limit is exceeded.
   unlimited : (v : Found)
       → checked None (length (texts bytes)) v
       ≡ checked (limit_fault (overrun usual_limits bytes)) (length (texts bytes)) v
@@ -123,7 +123,7 @@ module _ (first now : ℕ) (old new : Option (List ℕ)) (checking : Checking)
   same_bytes : (bytes : List ℕ) → old ≡ Some bytes → all.0 ≡ bytes
   same_bytes bytes is = taken_all old new all.0 bytes all.1 end is
 
-  -- If all lines were taken, what they are found to be is what the input is found to be.
+  -- If all lines were taken, the result of the lines is the result of the input.
   pub all_found : (input : CheckedInput)
       → ((lines : List (List ℕ)) → Covers lines checking → ChecksLines lines input)
       → ChecksInput old new input
@@ -139,7 +139,7 @@ module _ (first now : ℕ) (old new : Option (List ℕ)) (checking : Checking)
             ((Holds shown, c.0, unlimited all.0 all.2 (Holds shown)), c.1),
       )
 
-  -- with what the end costs
+  -- The cost with that of the end.
   pub all_cost : (more : ℕ) → more ≤ now + (read_in checking).lines
       → (bytes : List ℕ) → old ≡ Some bytes → CheckCostsAtMost bytes first more
   all_cost more h bytes is =
@@ -179,7 +179,7 @@ covered_leads lines (Within catalog v) cov = (
       (sym (named_here lines catalog v cov)) cov.leads,
 )
 
--- If what was read leads somewhere within the limits, it has no fault that no further byte can change.
+-- If the lines that were read can be taken within the limits, they have no fault that no further byte can change.
 pub reads_no_fault : (first : ℕ) (old new : Option (List ℕ))
     → ReadsSoFar (check_reading first) old new → RecheckReadsNoFault old new
 reads_no_fault first old new (bytes, read, none, (taker, leads)) =

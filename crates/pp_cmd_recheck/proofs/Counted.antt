@@ -17,7 +17,7 @@ take_short zero l = omega arith
 take_short (suc n) [] = omega arith
 take_short (suc n) (x ∷ l) = let rest = take_short n l in omega (arith, rest)
 
--- closing costs one more for each serial entry
+-- Ending a certificate costs at least one tick for each serial entry.
 pub shown_counted : (s : Stage (List Kind) Op) (h : Shown (List Kind) (List ObjectState) Op) (first old new : ℕ)
     → Some h ≡ shown_at objects s → new ≡ old + serial_in s → first + entries_at s ≤ old
     → ShownCostsAtLeast h first new

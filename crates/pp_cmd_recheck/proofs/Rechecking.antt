@@ -49,7 +49,7 @@ told_some catalog (Faulty n cause) = (statuses.InputFault, fault_text n cause, (
 told_some catalog (Refuses n why) = (statuses.Rejected, refused_text n why, (refl, refl))
 told_some catalog (Shows h) = (statuses.Accepted, holds_text catalog h, (refl, refl))
 
--- an input has one status and one text at most
+-- An input has at most one status and one text.
 pub one_recheck : (bytes : List ℕ) (s r : Status) (t u : List ℕ) → IsRecheck bytes s t
     → IsRecheck bytes r u → (s ≡ r) × (t ≡ u)
 one_recheck bytes s r t u a b =
@@ -58,7 +58,7 @@ one_recheck bytes s r t u a b =
     told_once catalog a.0 s r t u a.2
     (subst (λ (f : Checked). IsCheckedTold catalog f r u) one b.2)
 
--- and it has one
+-- An input has a status and a text.
 pub some_recheck : (bytes : List ℕ) → (s : Status) × (t : List ℕ) × IsRecheck bytes s t
 some_recheck bytes =
     let lines = texts bytes in
@@ -67,7 +67,7 @@ some_recheck bytes =
     let told = told_some (objects_in lines) f in
     (told.0, told.1, (f, (v.0, v.1, refl), told.2))
 
--- ---- what is shown
+-- ---- what a certificate shows
 shows_is : (h k : Shown (List Kind) (List ObjectState) Op) → Shows h ≡ Shows k → h ≡ k
 shows_is h k e = cc
 
@@ -87,7 +87,7 @@ not_either : (h : Shown (List Kind) (List ObjectState) Op) (b : Bool) (limit : �
 not_either h true limit n why e = not_fault h limit.0 limit.1 e
 not_either h false limit n why e = not_refused h n why e
 
--- what is shown is what the lines hold
+-- What is shown is what the lines state.
 shown_holds : (limit : Option (ℕ × Cause)) (count : ℕ) (v : Found)
     (h : Shown (List Kind) (List ObjectState) Op) → Shows h ≡ checked limit count v → v ≡ Holds h
 shown_holds None count (Holds k) h e =
@@ -97,7 +97,7 @@ shown_holds (Some limit) count (Holds k) h e = absurd (not_fault h limit.0 limit
 shown_holds (Some limit) count (Refused n why) h e =
     absurd (not_either h (nat_lt count n) limit n why e)
 
--- What a certificate shows that holds is sound.
+-- What an accepted certificate shows is sound.
 pub shows_sound : (bytes : List ℕ) (h : Shown (List Kind) (List ObjectState) Op)
     → IsChecked bytes (Shows h) → IsSoundOf bytes h
 shows_sound bytes h a =

@@ -1,4 +1,4 @@
--- Proof machinery: what is reported of a checked input.
+-- Proof machinery: the report of a checked input.
 use Rattle.std.proofs.Common.{◌≡◌, ◌⊎◌, ℕ, List, [], Option, Some, sym, subst, inl, inr, ◌∙◌}
 use Rattle.std.specs.Io.KnownBytes.{IsAtEnd}
 use Rattle.pp_core.specs.Catalogs.{Objects}
@@ -17,7 +17,7 @@ use Rattle.pp_cmd_recheck.specs.declared.check_input.CheckedInput.{CheckedInput}
 use Rattle.pp_cmd_recheck.specs.declared.check_input.CheckedInput.TheVariants as inputs
 use Rattle.pp_cmd_recheck.proofs.Rechecking.{shows_sound}
 
--- the three statuses
+-- The status is one of the three that a verdict can have.
 abbrev IsAnswer : Status → Type 0
 IsAnswer s = (s ≡ statuses.Accepted) ⊎ (s ≡ statuses.Rejected) ⊎ (s ≡ statuses.InputFault)
 
@@ -57,7 +57,7 @@ module _ (old new : Option (List ℕ)) where
   can_report (inputs.Fault at fault) h = tt
   can_report (inputs.Shows catalog shown) h = h.1
 
-  -- The status and the text of what an input is found to be are its output.
+  -- The status and the text of a checked input are its output.
   pub told_output : (input : CheckedInput) (s : Status) (t : List ℕ) → ChecksInput old new input
       → IsCheckedInputTold input s t → (bytes : List ℕ) → old ≡ Some bytes → IsRecheck bytes s t
   told_output (inputs.Fault at fault) s t h told bytes is =

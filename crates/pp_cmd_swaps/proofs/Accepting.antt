@@ -17,7 +17,7 @@ use Rattle.pp_judge.specs.Objects.{object_of, setting_of, start_of}
 use Rattle.pp_judge.specs.Reports.{IsCertified, IsTold, RunReport}
 use Rattle.pp_judge.specs.Scans.{InputScan}
 
--- each step of the run meets its criteria, and this is the report
+-- Each step of the run meets its criteria, and this is the report.
 pub record IsAcceptedRun {sc : InputScan} (own : HasRun sc) (text : List ℕ) : Type 0 where
   pub begun : StartMeets (object_of own.header.what) (start_of own.header.what)
   pub hold : RunsFrom (object_of own.header.what) (first (start_of own.header.what)) (bare own.run)
@@ -41,7 +41,7 @@ never_faulty : (o : Option (Lined Header)) (line : ℕ) (cause : Cause) (text : 
 never_faulty None line cause text t = let e : statuses.Accepted ≡ statuses.InputFault = t.0 in cc
 never_faulty (Some h) line cause text t = let e : statuses.Accepted ≡ statuses.InputFault = t.0 in cc
 
--- an accepted input has no fault, and such a run
+-- An accepted input has no fault, and has such a run.
 pub accepted_run : (bytes text : List ℕ) → IsCertified bytes statuses.Accepted text → IsFaultOf (scan bytes) None × ((own : HasRun (scan bytes)) × IsAcceptedRun own text)
 accepted_run bytes text (report, (None, none, r), t) = (none, ran (scan bytes) (scan bytes).header text report refl r t)
 accepted_run bytes text (report, (Some f, is, r), t) =

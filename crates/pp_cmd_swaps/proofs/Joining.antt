@@ -9,13 +9,13 @@ use Rattle.pp_format_write.proofs.RunTexts.{joined_both}
 use Rattle.pp_certificate_checker.specs.Laws.{rows}
 use Rattle.pp_certificate_checker.proofs.Rows.{rows_cut}
 
--- a line more is written, and others are left
+-- One more line is written, and others are left.
 line_more : (line : List ℕ) (lines : List (List ℕ)) (text longer whole : List ℕ) → text ++ joined_lines (line ∷ lines) ≡ whole → longer ≡ text ++ joined_lines (line ∷ []) → longer ++ joined_lines lines ≡ whole
 line_more line lines text longer whole so_far next =
     ap (λ (l : List ℕ). l ++ joined_lines lines) next ∙ append_assoc text (joined_lines (line ∷ [])) (joined_lines lines)
     ∙ ap (λ (l : List ℕ). text ++ l) (append_assoc line (10 ∷ []) (joined_lines lines)) ∙ so_far
 
--- lines that are written one after another are joined
+-- Lines that are written one by one are joined lines.
 pub flat_is : {A : Type 0} (f : A → List ℕ) (xs : List A) → flat_map (λ x. f x ++ 10 ∷ []) xs ≡ joined_lines (map f xs)
 flat_is f [] = refl
 flat_is {A} f (x ∷ xs) =
@@ -23,7 +23,7 @@ flat_is {A} f (x ∷ xs) =
 
 -- ---- rows of a thousand positions
 module _ (f : List ℕ → List ℕ) (is : List ℕ) (at : ℕ) (text longer whole : List ℕ) (so_far : text ++ joined_lines (map f (rows (drop at is))) ≡ whole) where
-  -- a row is written, and more are left
+  -- A row is written, and more rows are left.
   pub row_more : 1000 < length is - at → longer ≡ text ++ joined_lines (f (take 1000 (drop at is)) ∷ []) → longer ++ joined_lines (map f (rows (drop (at + 1000) is))) ≡ whole
   row_more many next =
       let left : List ℕ = drop at is in
@@ -33,7 +33,7 @@ module _ (f : List ℕ → List ℕ) (is : List ℕ) (at : ℕ) (text longer who
       line_more (f row) (map f (rows (drop (at + 1000) is))) text longer whole
       (ap (λ (l : List ℕ). text ++ joined_lines (map f (row ∷ rows l))) (sym behind) ∙ ap (λ (ls : List (List ℕ)). text ++ joined_lines (map f ls)) (sym cut) ∙ so_far) next
 
-  -- the last row is written
+  -- The last row is written.
   pub row_last : at < length is → length is - at ≤ 1000 → longer ≡ text ++ joined_lines (f (drop at is) ∷ []) → longer ≡ whole
   row_last some few next =
       let left : List ℕ = drop at is in
@@ -42,7 +42,7 @@ module _ (f : List ℕ → List ℕ) (is : List ℕ) (at : ℕ) (text longer who
       rows_cut left (omega (arith, length-drop at is)) ∙ ap (λ (l : List ℕ). l ∷ rows (drop 1000 left)) (take_all 1000 left long) ∙ ap (λ (l : List ℕ). left ∷ rows l) (drop_all 1000 left long) in
       next ∙ ap (λ (ls : List (List ℕ)). text ++ joined_lines (map f ls)) (sym cut) ∙ so_far
 
--- ---- the whole of it
+-- ---- the whole certificate
 abbrev J : List (List ℕ) → List ℕ
 J lines = joined_lines lines
 
@@ -57,7 +57,7 @@ all_joined head last entries cut none text more longer whole empty a b c d =
     d ∙ ap (λ (l : List ℕ). l ++ J (last ∷ [])) (c ∙ ap (λ (l : List ℕ). l ++ J cut) (b ∙ ap (λ (l : List ℕ). l ++ J entries) first))
     ∙ append_assoc (J (head ∷ []) ++ J entries) (J cut) (J (last ∷ [])) ∙ append_assoc (J (head ∷ [])) (J entries) (J cut ++ J (last ∷ [])) ∙ sym all
 
--- ---- what a row is, as a part of the positions
+-- ---- the row at a position, as a part of the positions
 pub row_at : (is : List ℕ) (at : ℕ) → take (at + 1000 - at) (drop at is) ≡ take 1000 (drop at is)
 row_at is at = let e : at + 1000 - at ≡ 1000 = omega arith in ap (λ (n : ℕ). take n (drop at is)) e
 

@@ -64,7 +64,7 @@ short_append [] ys h k = k
 short_append (x ∷ xs) ys h k = (h.0, short_append xs ys h.1 k)
 
 -- ---- rows
--- each row but the last has a thousand positions
+-- Each row but the last has a thousand positions.
 rows_few : (is : List ℕ) (room : ℕ) (row : List ℕ) → length row + room ≡ 1000 → 1000 * length (rows_from room row is) ≤ length row + length is + 999
 rows_few [] room [] e = omega arith
 rows_few [] room (i ∷ row) e = omega arith

@@ -72,7 +72,7 @@ module _ {Op : Type 0} (plain : Item Op → Bool) where
       let f = from_map (λ (z : LocalEntry Op). cond (z.id == id) (record z { mark = m }) z) e l i in
       subst (λ (z : LocalEntry Op). Of (item z)) (sym f.2) (remarked m f.0 ((f.0).id == id) (h f.0 f.1))
 
-  -- ---- a step
+  -- ---- logs after a step
   own_entry : (t : Name) (xs : List (Tx Op)) (id : ℕ) (m : Mark) (o : Option (Tx Op)) → ((x : Tx Op) → o ≡ Some x → In x xs) → OfOpen xs → (e : LocalEntry Op) → entry_of id m o ≡ Some e → Of (item e)
   own_entry t xs id m None there h e is = absurd (cc)
   own_entry t xs id m (Some x) there h e is = h x (there x refl) e (found_mark id m x.local e is).0
@@ -152,7 +152,7 @@ module _ {Op : Type 0} (plain : Item Op → Bool) where
     λ x i. absurd i,
   )
 
-  -- If the start's operations and those that the steps apply pass a test, so do the entries of the shared log.
+  -- If the operations of the start and those that the steps apply pass a test, so do the entries of the shared log.
   pub applied : (h : Option (Start Op)) (ss : List (Step Op)) → ArePlain plain (start_items h) → Each (AppliesOnly plain) ss → Each (λ g. IsTrue (plain (shared_item g))) (after h ss).shared
   applied h ss q k = each_from (λ (g : SharedEntry Op). IsTrue (plain (shared_item g))) (after h ss).shared (steps_of ss (first h) k (first_of h q)).0
 
@@ -166,7 +166,7 @@ filter_short {A} test (x ∷ xs) = at (test x) (filter_short test xs)
     at true h = omega arith
     at false h = omega arith
 
--- how many ids were used and how many entries are in the shared log, together
+-- How many ids were used and how many entries are in the shared log, together.
 abbrev both : {Op : Type 0} → Config Op → ℕ
 both c = length c.ids + length c.shared
 
@@ -182,7 +182,7 @@ committed_long : {Op : Type 0} (c : Config Op) (t : Name) (o : Option (Tx Op)) �
 committed_long c t None = omega arith
 committed_long {Op} c t (Some x) = omega (arith, length-map c.shared (λ (z : SharedEntry Op). cond (z.owner =ⁿ t) (record z { committed = true }) z))
 
--- each step adds one at most
+-- Each step adds at most one.
 step_long : {Op : Type 0} (c : Config Op) (s : Step Op) → both (then c s) ≤ both c + 1
 step_long c (Begin t p b) = omega arith
 step_long c (App t id op) = omega arith
@@ -203,7 +203,7 @@ first_long : {Op : Type 0} (h : Option (Start Op)) → both (first h) ≡ 2 * le
 first_long None = refl
 first_long {Op} (Some z) = omega (arith, length-map z.items (λ (p : Item Op). p.id), length-map z.items (as_shared z.tx true))
 
--- a list without repetitions, all of which are in another, is no longer than that
+-- A list without repetitions is at most as long as a list that has all its elements.
 no_longer : (xs ys : List ℕ) → ((i j : ℕ) → Before i j xs → i ≢ j) → ((i : ℕ) → In i xs → In i ys) → length xs ≤ length ys
 no_longer [] ys distinct within = omega arith
 no_longer (x ∷ xs) ys distinct within =
@@ -220,7 +220,7 @@ no_longer (x ∷ xs) ys distinct within =
         at (inr (inr b)) = in_right i front back b
 
 module _ {Op State : Type 0} (O : Object Op State) (c : Config Op) (sound : Sound O c) where
-  -- each entry has an id that was used
+  -- Each entry has an id that was used.
   known : (g : SharedEntry Op) → In g c.shared → In g.id c.ids
   known g i = by g.committed refl
     where
@@ -250,6 +250,7 @@ half O h ss begun runs =
     let sound = run_keeps O ss (first h) (start_sound O h begun) runs in
     omega (arith, fewer_than_ids O (after h ss) sound, steps_long ss (first h), first_long h)
 
--- Shared entries pass each test that the start's and applied ones pass; beyond the start's, an accepted run has at most half as many as steps.
+-- The entries of the shared log pass each test that the operations of the start and of the steps pass. Without those of the start, they are
+-- at most half as many as the steps.
 pub log_law : {Op State : Type 0} (O : Object Op State) → LogLaw O
 log_law O = record { applied = applied; half = half O }

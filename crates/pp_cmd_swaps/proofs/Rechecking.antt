@@ -159,7 +159,7 @@ module _ (bytes report : List ℕ) (sound : IsFaultOf (scan bytes) None) (own : 
   each_plain : Each (λ p. IsTrue (can_state p)) G
   each_plain = as_items c.shared (applied can_state (start_of header) steps (start_plain header header.start statable.begun) (all_apply catalog steps statable.each))
 
-  -- at most half of 200,000 entries, and those of the start
+  -- At most half of 200,000 entries, and those of the start.
   few : length G ≤ 100_256
   few =
       let most = statable.few in
@@ -219,7 +219,7 @@ module _ (bytes report : List ℕ) (sound : IsFaultOf (scan bytes) None) (own : 
     is_rechecked : IsRecheck text statuses.Accepted (holds_text catalog (shown_in catalog c))
     is_rechecked = (Shows (shown_in catalog c), is_checked, (refl, ap (λ (os : Objects). holds_text os (shown_in catalog c)) (sym same_objects)))
 
-  -- the report, by the configuration
+  -- The report, from the configuration.
   done_are : c.done ≡ map committed_tx (attempts (start_of header) steps)
   done_are = finished_are (object_of header) (start_of header) steps run.begun run.hold
 
@@ -234,7 +234,7 @@ module _ (bytes report : List ℕ) (sound : IsFaultOf (scan bytes) None) (own : 
 
 -- ---- what `swaps` writes if it accepts
 
--- it is certified as accepted, and this is the certificate of every run of the input
+-- The input is certified as accepted, and this is the certificate of every run of the input.
 told_of : (sc : InputScan) (how : Status) (report text : List ℕ) → IsSwapsOf sc how report statuses.Accepted text
     → (how ≡ statuses.Accepted) × ((r : HasRun sc) × IsTold r.header.what.catalog (config_of r) statuses.Accepted text)
 told_of sc statuses.Accepted report text h = (refl, h)
@@ -270,6 +270,6 @@ certified bytes text (how, report, is, swaps) =
       same_ops = lines_of_txs (op_line own.header.what.catalog) (config_of own).done;
     }
 
--- What `swaps` prints of an accepted input is its certificate.
+-- What `swaps` prints for an accepted input is its certificate.
 pub prints_certificate : (bytes text : List ℕ) (old new : Option (List ℕ)) → IsSwaps bytes statuses.Accepted text → Appends old new text → PrintsCertificate bytes old new
 prints_certificate bytes text old new is written = (text, written, certified bytes text is)

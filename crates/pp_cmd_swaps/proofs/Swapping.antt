@@ -1,4 +1,4 @@
--- Proof machinery: an input has one answer.
+-- Proof machinery: an input has one output.
 use Rattle.std.proofs.Common.{◌≡◌, ℕ, List, sym, subst, ◌∙◌, arith, inl, inr}
 use Rattle.pp_core.specs.Catalogs.{Objects}
 use Rattle.pp_core.specs.declared.status.Status.{Status}

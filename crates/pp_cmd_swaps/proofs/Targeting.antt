@@ -1,4 +1,4 @@
--- Proof machinery: what is asked of the shared log of a machine and of its target holds of them.
+-- Proof machinery: the shared log of a machine and its target meet the conditions on a certificate.
 use Rattle.std.proofs.Common.{◌≡◌, IsTrue, List, [], ◌∷◌, map, sym, subst, inl, inr, refl}
 use Rattle.pp_model.specs.Config.{Config, SharedEntry, shared_item, shared_ops}
 use Rattle.pp_model.specs.Lists.{Each, In}
@@ -15,12 +15,12 @@ module _ {Shape State Op Undo : Type 0} (o : Object Shape State Op Undo) (laws :
   permutes log target log_is target_is =
       subst (λ (l : List (Item Op)). Permutes l target) (sym log_is) (subst (λ (l : List (Item Op)). Permutes (log_of c) l) (sym target_is) ((targets o laws).permutes shape c sound))
 
-  -- Each pair that the log and the target of a sound configuration order differently swaps, in every shape.
+  -- Each pair of entries that the log and the target of a sound configuration order differently swaps, in every shape.
   pub swap : (log target : List (Item Op)) → log ≡ log_of c → target ≡ target_of c → InvertedSwap o log target
   swap log target log_is target_is =
       subst (λ (l : List (Item Op)). InvertedSwap o l target) (sym log_is) (subst (λ (l : List (Item Op)). InvertedSwap o (log_of c) l) (sym target_is) ((targets o laws).swaps shape c sound))
 
-  -- each entry is an operation of these objects, in the range of records
+  -- Each entry is an operation of these objects, in the range of records.
   pub fit : AllRanged o (shared_ops c.shared) → Each (λ p. IsTrue (o.fits shape p.op) × IsTrue (o.ranged p.op)) (log_of c)
   fit ranged = go c.shared ranged (log_fits o laws shape c sound)
     where

@@ -1,4 +1,4 @@
--- Proof machinery: what is told of a configuration, and of an input.
+-- Proof machinery: the text for a configuration, and for an input.
 use Rattle.std.proofs.Common.{◌≡◌, ◌<◌, ◌≤◌, ℕ, List, length, refl, sym, ap, subst, ◌∙◌, arith}
 use Rattle.std.proofs.Common.{inl, inr, Some, ◌+◌, ◌++◌, map}
 use Rattle.std.proofs.lemmas.List.{length-map}
@@ -44,7 +44,7 @@ use Rattle.pp_cmd_swaps.specs.Swaps.{IsSwaps, IsTold, too_large_text}
 
 -- ---- a configuration
 
--- what was collected is the shared log and its target
+-- The collected entries are the shared log and its target.
 module _ (c : Config Op) (shape : List Kind) (pair : List Kind × List (SharedEntry Op)) (entries : List (SharedEntry Op)) (shared : pair ≡ (shape, c.shared)) (all : entries ≡ pair.1) where
   entries_are : entries ≡ c.shared
   entries_are = all ∙ ap (λ (p : List Kind × List (SharedEntry Op)). p.1) shared
@@ -62,7 +62,7 @@ module _ (c : Config Op) (shape : List Kind) (pair : List Kind × List (SharedEn
 pub done_is : (c : Config Op) (committed slice : List (CommittedTx Op)) (front : List (Item Op)) → committed ≡ c.done → slice ≡ committed → front ≡ serial_items slice → front ≡ serial_items c.done
 done_is c committed slice front done same is = is ∙ ap (λ (D : List (CommittedTx Op)). serial_items D) (same ∙ done)
 
--- how long they are
+-- The log has at most 200,256 entries.
 pub few_entries : (c : Config Op) (count : ℕ) (log : List (Item Op)) → length c.shared ≤ count + 256 → count ≤ 200_000 → log ≡ log_of c → length log ≤ 200_256
 few_entries c count log short few is = omega (arith, short, few, ap (λ (l : List (Item Op)). length l) is, length-map c.shared (shared_item {Op = Op}))
 
@@ -71,7 +71,7 @@ pub few_serial : (c : Config Op) (shape : List Kind) (count : ℕ) (front : List
 few_serial c shape count front sound short few is =
     omega (arith, short, few, ap (λ (l : List (Item Op)). length l) is, serial_fits (rules_of objects shape) c sound, length-map (serial_items c.done) (λ (p : Item Op). p.op))
 
--- each entry can be written
+-- Each entry can be written.
 pub writable : (catalog : Objects) (c : Config Op) (shape : List Kind) (pair : List Kind × List (SharedEntry Op)) (log : List (Item Op)) → shape ≡ kinds_of catalog → Sound (rules_of objects shape) c → pair ≡ (shape, c.shared)
     → AllRanged objects (shared_ops pair.1) → log ≡ log_of c → AreWritable catalog log
 writable catalog c shape pair log over sound shared ranged is =
@@ -134,7 +134,7 @@ accepted_swaps bytes tally machine status text r told =
       (own, subst (λ (c : Config Op). IsTold h.catalog c status text) (config_is sc tally machine r) told),
     )
 
--- a configuration has a verdict only if its certificate is printed, and this is accepted
+-- A configuration has a verdict only if its certificate is printed, and then it is accepted.
 pub accepted_if_decided : (catalog : Objects) (c : Config Op) (status : Status) (text : List ℕ) → IsTold catalog c status text → IsDecided status → status ≡ statuses.Accepted
 accepted_if_decided catalog c status text (inl small) decided = small.1
 accepted_if_decided catalog c status text (inr large) decided = absurd (subst IsDecided large.1 decided)

@@ -2,7 +2,7 @@
 use Rattle.std.proofs.Common.{◌≡◌, List, ◌++◌, ◌∙◌, ap, append_assoc}
 
 module _ {A : Type 0} (text : List A) where
-  -- two pieces that are added in turn are one
+  -- Two pieces that are added one after the other are one piece.
   pub two : (x y a b : List A) → x ≡ text ++ a → y ≡ x ++ b → y ≡ text ++ (a ++ b)
   two x y a b p q = q ∙ ap (λ (l : List A). l ++ b) p ∙ append_assoc text a b
 

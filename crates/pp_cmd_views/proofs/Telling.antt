@@ -1,4 +1,4 @@
--- What is told of an accepted run, by its machine and its steps.
+-- The text for an accepted run, from its machine and its steps.
 use Rattle.std.specs.Prelude.{◌≡◌, ◌≤◌, ◌<◌, ◌+◌, ◌*◌, ℕ, IsTrue, Bool, true, false, List, [], ◌∷◌, length, map, nat_lt, cond}
 use Rattle.std.specs.Prelude.{Option, None, Some, ◌⊎◌}
 use Rattle.std.proofs.Common.{refl, sym, ap, ◌∙◌, subst, arith}
@@ -63,7 +63,7 @@ use Rattle.pp_cmd_views.specs.Texts.{too_large_text, views_text}
 
 -- ---- numbers
 
--- no more is committed than there are steps
+-- A run commits at most as many transactions as it has steps.
 commits_short : (ss : List (Step Op)) → length (commits ss) ≤ length ss
 commits_short [] = omega arith
 commits_short (Cmt t ∷ ss) = let rest = commits_short ss in omega (arith, rest)
@@ -81,9 +81,9 @@ attempts_short h ss =
     let rest = length-map (commits ss) (attempt_of ss) in
     omega (arith, all, both, rest, starts_short h, commits_short ss)
 
--- ---- what is asked of a peak's operations
+-- ---- the conditions on the operations of an attempt
 
--- of operations on the objects of a run, what is required if they are tried
+-- Operations on the objects of a run meet the conditions for trying them.
 on_objects : (catalog : Objects) (items : List (Item Op)) → ((i : Item Op) → In i items → IsOpOn catalog i.op)
     → Each (λ op. IsTrue (objects.fits (kinds_of catalog) op)) (ops items) × AllRanged objects (ops items)
 on_objects catalog [] all = (tt, tt)
@@ -97,7 +97,7 @@ on_objects catalog (x ∷ items) all =
 abbrev Are : List (Step Op) → Option (Start Op) → List (Step Op) → Type 0
 Are steps start run = steps ≡ run
 
--- a machine that was driven through the run has them
+-- A machine that was driven through the run has its steps.
 pub has_steps : (sc : InputScan) (tally : Tally) (judge : Driven RunSteps) → AreGood (driven_judging HasSeenSteps) sc tally judge → HasSteps sc tally judge.machine (meanings judge.observer.steps)
 has_steps sc tally judge g =
     let running = running_of HasSeenSteps sc tally judge g in
@@ -140,7 +140,7 @@ module _ (sc : InputScan) (tally : Tally) (machine : Seen (List Kind) Op) (steps
   pub committed : machine.config.done ≡ map committed_tx (attempts (start_of header) steps)
   committed = committed_are sc tally machine h.running ∙ ap (λ (w : List (Step Op)). map committed_tx (attempts (start_of header) w)) (sym steps_are)
 
-  -- The machine has counted as many steps as there are.
+  -- The machine has counted the steps.
   pub count : machine.count ≡ length steps
   count = h.running.stands.number ∙ sym (length_bare run) ∙ ap (λ (w : List (Step Op)). length w) (sym steps_are)
 
@@ -156,7 +156,7 @@ module _ (sc : InputScan) (tally : Tally) (machine : Seen (List Kind) Op) (steps
   pub few_committed : length machine.config.done ≤ 200_001
   few_committed = let same = ap (λ (D : List (CommittedTx Op)). length D) committed in omega (arith, same, few_steps, attempts_short (start_of header) steps)
 
-  -- the operations of a peak may be tried behind so many
+  -- The operations of an attempt may be tried after at most this many others.
   pub may_be_tried : (p : Peak Op) (n : ℕ) → In p (peaks steps) → n ≤ 200_256 → MayBeTried objects kinds n p.ops
   may_be_tried p n there few =
       let on = on_objects header.catalog p.ops (λ i m. each_in (IsWritable header.catalog) steps h.each (App p.tx i.id i.op) (applied steps p i there m)) in
@@ -166,7 +166,7 @@ module _ (sc : InputScan) (tally : Tally) (machine : Seen (List Kind) Op) (steps
         few = omega (arith, few, few_steps, peak_short steps p there);
       }
 
-  -- ---- what is told
+  -- ---- the text
 
   -- If the peaks are not too large, the text of their views is that of the run, with status accepted.
   pub told_views : (vs : List View) (text : List ℕ) → AreViews (object_of header) machine.config.done (peaks steps) vs → text ≡ views_text machine.count (length machine.config.done) vs
@@ -193,9 +193,10 @@ module _ (sc : InputScan) (tally : Tally) (machine : Seen (List Kind) Op) (steps
     subst (λ (w : List (Step Op)). IsStepsTold header w statuses.TooLarge text) steps_are (inr (many, refl, is ∙ ap too_large_text same)),
   )
 
-  -- ---- what it costs
+  -- ---- the cost
 
-  -- Within the bound of the steps, and up by at most what looking for the views costs at most, the counter is within that of `views`.
+  -- If the counter is within the bound of the steps, and rises by at most what the search for the views costs, it is within the bound of
+  -- `views`.
   pub viewed_most : (old now new : ℕ) → StepsCostAtMost sc old now → new ≤ now + viewing_at_most machine.config.done steps → ViewsCostAtMost sc old new
   viewed_most old now new most cost other is =
       let most_here = most other is in
@@ -210,7 +211,7 @@ module _ (sc : InputScan) (tally : Tally) (machine : Seen (List Kind) Op) (steps
       both_most : (old now new a b n : ℕ) → now ≤ old + a → new ≤ now + n → n ≡ b → new ≤ old + (a + b)
       both_most old now new a b n x y z = omega (arith, x, y, z)
 
--- without views
+-- The bound without views.
 pub steps_most : (sc : InputScan) (old new : ℕ) → StepsCostAtMost sc old new → ViewsCostAtMost sc old new
 steps_most sc old new most run is =
     more_room old new (steps_at_most (start_behind sc.header) (bare run)) (viewing_at_most (map committed_tx (attempts (start_behind sc.header) (bare run))) (bare run)) (most run is)
@@ -218,7 +219,7 @@ steps_most sc old new most run is =
     more_room : (old new a b : ℕ) → new ≤ old + a → new ≤ old + (a + b)
     more_room old new a b x = omega (arith, x)
 
--- looking for the views takes nothing from what the counter shows
+-- The search for the views does not lower the counter.
 pub viewed_least : (sc : InputScan) (status : Status) (old now new : ℕ) → (status ≡ statuses.Accepted) ⊎ (status ≡ statuses.TooLarge) → IsDecided status
     → (OfRun sc.header sc.records λ start steps. old + singles steps ≤ now) → now ≤ new → StepsCostAtLeast status sc old new
 viewed_least sc status old now new (inl accepted) decided least rises =
@@ -228,7 +229,7 @@ viewed_least sc status old now new (inl accepted) decided least rises =
     more old now new a x y = omega (arith, x, y)
 viewed_least sc status old now new (inr large) decided least rises = absurd (subst IsDecided large decided)
 
--- if the peaks are not too many, this is the cost of looking for their views
+-- If the attempts do not have too many operations, this is the cost of the search for their views.
 pub few_cost : (D : List (CommittedTx Op)) (steps : List (Step Op)) → operations (peaks steps) ≤ MOST_VIEWED
     → viewing_at_most D steps ≡ length (serial_ops D) + 2 * ((length D + 1) * operations (peaks steps))
 few_cost D steps few = by (nat_lt MOST_VIEWED (operations (peaks steps))) (not_more (operations (peaks steps)) few)

@@ -1,4 +1,4 @@
--- An input has one output, and what holds of it.
+-- An input has one output, and the properties of this output.
 use Rattle.std.specs.Prelude.{◌≡◌, ◌≤◌, ◌<◌, ◌+◌, ℕ, zero, suc, List, [], ◌∷◌, length, map, Option, None, Some}
 use Rattle.std.proofs.Common.{refl, sym, ap, ◌∙◌, subst, arith}
 use mathlib.Core.Logic.{inl, inr}
@@ -85,9 +85,9 @@ one_views bytes s s' t t' (how, report, certified, is) (how', report', certified
     let one = one_certified bytes how how' report report' certified certified' in
     one_output (scan bytes) how' report report' s s' t t' one.1 (subst (λ (w : Status). IsViewsOf (scan bytes) w report s t) one.0 is) is'
 
--- ---- the last peak of a committed transaction
+-- ---- the last attempt of a committed transaction
 
--- a run of a scan of which each step meets its criteria
+-- Each step of a run of the scan meets its criteria.
 record MeetsAll (sc : InputScan) : Type 0 where
   pub own : HasRun sc
   pub begun : StartMeets (object_of own.header.what) (start_of own.header.what)

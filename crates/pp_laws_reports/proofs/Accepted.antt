@@ -23,7 +23,7 @@ use Rattle.pp_cmd_swaps.specs.Swaps.{IsSwaps, certificate_text, config_of, inver
 use Rattle.pp_laws_reports.proofs.Certified.{some_report}
 use Rattle.pp_laws_reports.specs.Defined.{IsDefined}
 
--- a least number below m has the property, or none has it
+-- There is a least number below m with the property, or no number below m has it.
 some_least : (m : ℕ) (P : ℕ → Type 0) → ((o : Option ℕ) → IsLeastBelow m P o → ⊥) → ⊥
 some_least zero P none = none None (λ n below holds. let no : ⊥ = omega arith in no)
 some_least (suc m) P none = some_least m P more
@@ -37,7 +37,7 @@ some_least (suc m) P none = some_least m P more
           | inr reached ↦ let same : n ≡ m = omega arith in last (subst P same holds)
         ])
 
--- attempts have views
+-- Attempts have views.
 some_views : {Op State : Type 0} (m : ℕ) (O : Object Op State) (committed : List (CommittedTx Op)) (ps : List (Peak Op)) →
     ((vs : List View) → Pairwise (IsViewBelow m O committed) ps vs → ⊥) → ⊥
 some_views m O committed [] none = none [] tt

@@ -24,7 +24,7 @@ printed header h here (Accepts records committed final) =
     (statuses.Accepted, quick_accepted_text h.what.catalog records (map committed_tx committed) final, (refl, (h, here, refl)))
 printed header h here (Rejects line) = (statuses.Rejected, quick_rejected_text line, (refl, refl))
 
--- an input that `quick` finds no fault in has a header
+-- An input without a fault for `quick` has a header.
 header_of_quick : (bytes : List ℕ) → quick_fault (scan bytes) ≡ None → (header : Lined Header) × ((scan bytes).header ≡ Some header)
 header_of_quick bytes sound = by (scan bytes).header refl
   where

@@ -55,7 +55,7 @@ word_only m = only_all is_word_byte (method_word m) (word_all m)
 
 -- ---- the name of an object
 
--- the object at this place, and its name
+-- The object at this place, and its name.
 record Stands (catalog : Objects) (place : ℕ) : Type 0 where
   name : List ℕ
   key : slice_get (keys_of catalog) place ≡ Some name

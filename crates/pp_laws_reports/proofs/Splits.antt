@@ -66,12 +66,12 @@ pub both : (a b : Bool) → (a && b) ≡ true → (a ≡ true) × (b ≡ true)
 both true b h = (refl, h)
 both false b h = absurd (cc)
 
--- the same from a test of all bytes
+-- If `list_all` says that each byte passes a test, each byte does.
 pub only_all : (p : ℕ → Bool) (x : List ℕ) → list_all p x ≡ true → Only p x
 only_all p [] h = tt
 only_all p (b ∷ x) h = let two = both (p b) (list_all p x) h in (two.0, only_all p x two.1)
 
--- and back
+-- If each byte passes a test, `list_all` says so.
 pub all_only : (p : ℕ → Bool) (x : List ℕ) → Only p x → list_all p x ≡ true
 all_only p [] h = refl
 all_only p (b ∷ x) h = ap (λ t. t && list_all p x) h.0 ∙ all_only p x h.1

@@ -1,4 +1,4 @@
--- The lines of an input are those of a prefix that ends a line, and others behind them.
+-- The lines of an input are those of a prefix that ends a line, and then others.
 use Rattle.std.specs.Prelude.{◌≡◌, ℕ, ◌+◌, List, [], ◌∷◌, ◌++◌, length, map, Bool, true, false, cond}
 use Rattle.std.specs.Prelude.{None, Some}
 use Rattle.std.proofs.Common.{refl, sym, ap, ◌∙◌, append_assoc, arith}
@@ -62,7 +62,7 @@ numbered_append n (x ∷ xs) b =
     let e : n + 1 + length xs ≡ n + length (x ∷ xs) = omega arith in
     ap (λ ls. (n, x) ∷ ls) (numbered_append (n + 1) xs b ∙ ap (λ m. numbered_from (n + 1) xs ++ numbered_from m b) e)
 
--- the others are numbered behind them
+-- The other lines are numbered after them.
 pub whole_lines : (front back : List ℕ) → overrun usual_limits (front ++ back) ≡ None → (more : List (List ℕ))
     × (scanned_lines usual_limits (front ++ back) ≡ ended_lines front ++ numbered_from (1 + length (ended front)) more)
 whole_lines front back none =

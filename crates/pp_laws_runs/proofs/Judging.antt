@@ -17,7 +17,7 @@ use Rattle.pp_records.proofs.Whole.{extends_law, one_run_law}
 use Rattle.pp_laws_runs.specs.Prefixes.{Begins}
 use Rattle.pp_laws_runs.proofs.Growing.{committed_more}
 
--- what a report that accepts tells
+-- The parts of a report that accepts.
 told_accepted : {F R Op State : Type 0} (Cause : Type 0) (s : Setting F R Op State) (run : LinedSteps Op) (v : Verdict) (steps : ℕ) (committed : List (Attempt Op)) (final : State) →
     IsReportOf {Cause = Cause} s run v (Accepts steps committed final) → (v ≡ Accepted) × (steps ≡ length run) × (committed ≡ attempts s.start (bare run))
 told_accepted Cause s run Accepted steps committed final is = (refl, cc, cc)
@@ -41,7 +41,7 @@ module _ {H F R Op State Cause : Type 0} (setting : H → Setting F R Op State) 
 
   -- ---- an accepted scan
 
-  -- an accepted scan has no fault, this number of steps and these committed attempts
+  -- An accepted scan has no fault, this number of steps and these committed attempts.
   abbrev pub Parts : Scan H R Cause → ℕ → List (Attempt Op) → Type 0
   Parts sc steps committed = IsFault setting too_many sc None × AreAccepted sc.records × (steps ≡ length (steps_of s sc.records)) × (committed ≡ attempts s.start (steps_in sc.records))
 
@@ -66,13 +66,13 @@ module _ {H F R Op State Cause : Type 0} (setting : H → Setting F R Op State) 
       let told : r ≡ Accepts (length (steps_of s sc.records)) (attempts s.start (steps_in sc.records)) final = rw (count, same) refl in
       (final, (None, none, subst (λ (o : Option H). IsRunReport setting o sc.records r) (sym header) ((law.unfolded h sc.records r).1 (Accepted, accepted, told))))
 
-  -- its run is all of its steps
+  -- The run of an accepted scan is all of its steps.
   pub run_whole : (rs : Records R) (run : LinedSteps Op) → AreAccepted rs → IsRun s.object s.translation s.start rs run → run ≡ steps_of s rs
   run_whole rs run accepted is =
       let runs = one_run_law s.object s.translation in
       runs.run s.start rs run (steps_of s rs) is (runs.told s.start rs Accepted accepted)
 
-  -- ---- the first records of it
+  -- ---- the first records of an accepted scan
 
   module _ (sc wider : Scan H R Cause) (records : Begins sc.records wider.records) where
     -- The steps of the first records are the first steps of all records.
@@ -104,7 +104,7 @@ module _ {H F R Op State Cause : Type 0} (setting : H → Setting F R Op State) 
           subst (λ (ss : List (Step Op)). Begins (map committed_tx (attempts s.start (steps_in sc.records))) (map committed_tx (attempts s.start ss))) (sym first_bare)
           (committed_more s.object s.start (steps_in sc.records) (bare first_steps.0) ((accepted_iff s.object s.start (steps_in wider.records)).0 accepted).0 first_runs)
 
-    -- and they are not too many
+    -- The first records do not have too many steps.
     module _ (header : sc.header ≡ Some h) (wide_header : wider.header ≡ Some h) where
       overruns_too : (line : ℕ) → OverrunsAt setting sc.header sc.records line → OverrunsAt setting wider.header wider.records line
       overruns_too line over =

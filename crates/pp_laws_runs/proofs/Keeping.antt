@@ -66,7 +66,7 @@ module _ {Op State : Type 0} (O : Object Op State) (place : Op → ℕ) where
   -- ---- from the logs after a record
 
   module _ (P : Tx Op → Type 0) (c : Config Op) (ss : List (Step Op)) (t : Name) (s : Sound O c) (run : RunsFrom O c ss) where
-    -- a fact about t and about all other open transactions is one about all of them
+    -- A fact about t and about all other open transactions is a fact about each open transaction.
     one_and_others : (x : Tx Op) → tx t (after_from c ss).opened ≡ Some x → P x → ((y : Tx Op) → In y (after_from c ss).opened → y.name ≢ t → P y) → (y : Tx Op) → In y (after_from c ss).opened → P y
     one_and_others x h p others y i = elim (name_or_not y.name t) [
       | inl e ↦ only_one O (after_from c ss) (run_keeps O ss c s run) t x h P p y i e
@@ -192,7 +192,7 @@ module _ {Op State : Type 0} (O : Object Op State) (place : Op → ℕ) where
       before = λ m e. k.before m (sym (only.section y.name n) ∙ e);
     }
 
-    -- what is kept after these steps of t
+    -- The facts that are kept after these steps of t.
     abbrev KeptAfter : Front → List (Step Op) → Type 0
     KeptAfter g ss = Kept styles.Hardware g (after_from c ss)
 
@@ -228,13 +228,13 @@ module _ {Op State : Type 0} (O : Object Op State) (place : Op → ℕ) where
       known : In t c.names
       known = subst (λ (w : Name). In w c.names) named (s.open_known x there)
 
-      -- its log is this one, and the others are as they were
+      -- The log of t is this one, and the other logs are as they were.
       known_log : (g : Front) (ss : List (Step Op)) (y : Tx Op) → RunsFrom O c ss → OnlyAt t g → AreOf t ss → tx t (after_from c ss).opened ≡ Some y → SectionKept g y → KeptAfter g ss
       known_log g ss y r only own led k =
           kept_after t g ss known only
           (one_and_others (λ z. SectionKept g z) c ss t s r y led k (λ z i n. other_kept t g only z n (all z (still_after t ss c z own i n))))
 
-      -- it has ended, and the others are as they were
+      -- The transaction t has ended, and the other ones are as they were.
       ended : (ss : List (Step Op)) → ((y : Tx Op) → In y (after_from c ss).opened → In y c.opened × (y.name ≢ t)) → KeptAfter f ss
       ended ss left = kept_after t f ss known (same_front t) (λ y i. all y (left y i).0)
 
@@ -322,7 +322,7 @@ module _ {Op State : Type 0} (O : Object Op State) (place : Op → ℕ) where
       λ u n. fresh u (λ i. n (inr i)),
     )
 
-    -- what the front of a record becomes, by the transaction that is found
+    -- What the front of a record becomes, by the transaction that is found.
     abbrev KeptBy : (Option (Tx Op) → Front) → Option (Tx Op) → List (Step Op) → Type 0
     KeptBy g o ss = KeptAfter (g o) ss
 

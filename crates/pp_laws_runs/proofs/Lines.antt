@@ -56,7 +56,7 @@ module _ {F R Op : Type 0} (T : Translation F R Op) where
             subst (λ (n : ℕ). x.line ≤ n) (sym m.2) (subst (λ (n : ℕ). n ≤ m.0.line) (sym first) (never r m.0 (inl (refl, m.1))))
       ]
 
--- the same for the steps of a run
+-- The lines of the steps of a run never fall if those of the records never fall.
 pub run_never_falls : {F R Op State : Type 0} (O : Object Op State) (T : Translation F R Op) (h : Option (Start Op)) (rs : Records R) (run : LinedSteps Op) →
     LinesNeverFall rs → IsRun O T h rs run → LinesNeverFall run
 run_never_falls {Op = Op} O T h rs run never (inl r) x y b = absurd (subst (λ (w : LinedSteps Op). Before x y w) r.2 b)

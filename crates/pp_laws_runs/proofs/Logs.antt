@@ -42,7 +42,7 @@ mark_found {Op} l e m d i k =
     (ap (λ (b : Bool). b && is_mark e.mark m) (eq-eqb e.id e.id refl) ∙ ap (λ (w : Mark). is_mark w m) k ∙ mark_same m)
     (λ y j h. by_key (λ (w : LocalEntry Op). w.id) l d y e j i (eqb-true y.id e.id (and_parts (y.id == e.id) (is_mark y.mark m) h).0))
 
--- so is an entry of the shared log that another transaction owns
+-- An entry of the shared log that another transaction owns is found by its id.
 pub other_found : {Op : Type 0} (t : Name) (G : List (SharedEntry Op)) (g : SharedEntry Op) → SharedIds G → In g G → g.owner ≢ t → of_other t g.id G ≡ Some g
 other_found {Op} t G g d i n =
     find_only (λ (w : SharedEntry Op). (w.id == g.id) && not (w.owner =ⁿ t)) g G i
@@ -110,7 +110,7 @@ module _ {Op : Type 0} (p q : List (LocalEntry Op)) (e : LocalEntry Op) (d : Loc
       ∙ ap (λ (b : Bool). p ++ cond (not b) (e ∷ filter test q) (filter test q)) (eq-eqb e.id e.id refl)
       ∙ ap (λ (w : List (LocalEntry Op)). p ++ w) (keep_all test q (λ a i. eqb_not a.id e.id (apart_after a i)))
 
--- the same of an entry of the shared log
+-- An entry of the shared log that is left out leaves what comes before and after it.
 pub without_shared_at : {Op : Type 0} (p q : List (SharedEntry Op)) (g : SharedEntry Op) → SharedIds (p ++ g ∷ q) → without_shared g.id (p ++ g ∷ q) ≡ p ++ q
 without_shared_at {Op} p q g d =
     let test = λ (a : SharedEntry Op). not (a.id == g.id) in

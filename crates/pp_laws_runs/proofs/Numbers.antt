@@ -10,7 +10,7 @@ pub after_true : (p : Type 0) (ps : List (Type 0)) (n : ℕ) → p → FirstFals
 after_true p ps zero h b = absurd (b h)
 after_true p ps (suc n) h b = (n, refl, b.1)
 
--- If there is something to speak of, the first false fact is one about it.
+-- If the option has a value, and a later fact is the first false one, it is the first false fact about this value.
 pub after_there : {A : Type 0} (o : Option A) (F : A → List (Type 0)) (x : A) (n : ℕ) → o ≡ Some x → FirstFalse (there o F) (suc n) → (k : ℕ) × (n ≡ suc k) × FirstFalse (F x) (suc k)
 after_there {A} o F x n e b = after_true (Unit {0}) (F x) n tt (subst (λ (w : Option A). FirstFalse (there w F) (suc n)) e b)
 
@@ -52,7 +52,7 @@ pub in_two : (n : ℕ) → (n ≡ 0) ⊎ (n ≡ 1) → In (suc n) (1 ∷ 2 ∷ [
 in_two n (inl e) = inl (omega (arith, e))
 in_two n (inr e) = inr (inl (omega (arith, e)))
 
--- the fourth or the fifth
+-- The number is 4 or 5.
 pub four_or_five : (n a b k : ℕ) → n ≡ suc a → a ≡ suc b → b ≡ suc k → (k ≡ 0) ⊎ (k ≡ 1) → In (suc n) (4 ∷ 5 ∷ [])
 four_or_five n a b k e f g (inl h) = inl (omega (arith, e, f, g, h))
 four_or_five n a b k e f g (inr h) = inr (inl (omega (arith, e, f, g, h)))

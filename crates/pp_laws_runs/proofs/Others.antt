@@ -141,7 +141,7 @@ after_cmt {Op} O c t y m i =
 
 -- ---- the own log
 
--- its log grows by entries that are not unpushed, and by one more
+-- The log of t grows by entries that are not unpushed, and then by one more entry.
 pub record Grows {Op : Type 0} (t : Name) (x : Tx Op) (c : Config Op) (ss : List (Step Op)) (last : LocalEntry Op) : Type 0 where
   pub more : List (LocalEntry Op)
   pub none : NoneUnpushed more

@@ -24,7 +24,7 @@ use Rattle.pp_laws_runs.proofs.Judging.{first_committed, first_sound, first_step
 use Rattle.pp_laws_runs.proofs.Judging.{run_whole}
 use Rattle.pp_laws_runs.proofs.Scanned.{front_header, front_records, front_sound}
 
--- the run of an input whose steps are accepted is all of them
+-- The run of an input whose steps are all accepted is all of its steps.
 run_is : (sc : InputScan) (header : Lined Header) → sc.header ≡ Some header → AreAccepted setting_of TooManySteps header sc.records → (r : HasRun sc) → r.run ≡ steps_of (setting_of header) sc.records
 run_is sc header there accepted r =
     let same : r.header ≡ header = same_Some r.header header (sym r.first_line ∙ there) in

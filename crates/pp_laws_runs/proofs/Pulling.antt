@@ -45,7 +45,7 @@ stands (z ∷ l) id e (inr i) k = ap (λ (b : Bool). (z.id == id) || b) (stands 
 abbrev pub AllShared : {Op : Type 0} → Config Op → Type 0
 AllShared {Op} c = (u : SharedEntry Op) → In u c.shared → u.committed ≡ true
 
--- what is uncommitted in the shared log is of this transaction
+-- Each uncommitted entry of the shared log is owned by this transaction.
 abbrev pub OnlyOwnOpen : {Op : Type 0} → Name → Config Op → Type 0
 OnlyOwnOpen {Op} t c = (u : SharedEntry Op) → In u c.shared → u.committed ≡ false → u.owner ≡ t
 

@@ -78,7 +78,7 @@ module _ {Op State : Type 0} (O : Object Op State) (h : Option (Start Op)) (met 
         | inr j ↦ j
       ]
 
-  -- so a transaction that committed in the past comes before it in the commit order
+  -- A transaction that committed in the past comes before u in the commit order.
   committed_first : (past rest : List (Step Op)) (t u p : Name) (b : Option Tree) → ss ≡ past ++ Begin u p b ∷ rest → In t (commits past) → In u (commits ss) → Before t u (commit_order h ss)
   committed_first past rest t u p b e i j =
       in_order_of h ss t u (subst (λ (w : List Name). Before t u w) (sym (ap (λ (w : List (Step Op)). commits w) e ∙ commits-append past (Begin u p b ∷ rest)))

@@ -54,7 +54,7 @@ pushes_pull_nothing t [] = tt
 pushes_pull_nothing t (e ∷ es) = (tt, pushes_pull_nothing t es)
 
 module _ {Op State : Type 0} (O : Object Op State) (place : Op → ℕ) where
-  -- both cases: the transaction is open, or it is not
+  -- A property is proved for an open transaction and for one that is not open.
   pub open_all : (P : List (Step Op) → Type 0) (c : Config Op) (t : Name) (alone : Step Op) (steps : List (LocalEntry Op) → List (Step Op)) → (tx t c.opened ≡ None → P (alone ∷ [])) →
       ((x : Tx Op) → tx t c.opened ≡ Some x → P (steps x.local)) → P (where_open c t alone steps)
   open_all P c t alone steps a b = elim (tx t c.opened) as (λ o. tx t c.opened ≡ o → P (steps_of_open o alone steps)) [ None ↦ λ e. a e | Some x ↦ λ e. b x e ] refl
@@ -97,8 +97,7 @@ module _ {Op State : Type 0} (O : Object Op State) (place : Op → ℕ) where
 
   -- ---- operations
 
-  -- what is true between records, so that an operation that is published at once may move before
-  -- the unpushed entries
+  -- A condition between records: an operation that is published at once may move before the unpushed entries.
   abbrev pub PassesAtOnce : Style → Front → Config Op → Type 0
   PassesAtOnce styles.Rules f c = Unit {0}
   PassesAtOnce styles.Boosted f c = (x : Tx Op) → In x c.opened → NoneUnpushed x.local
@@ -135,7 +134,7 @@ module _ {Op State : Type 0} (O : Object Op State) (place : Op → ℕ) where
 
   -- ---- records
 
-  -- what is kept between records: of the logs, and of the pulled entries
+  -- The facts about the logs and the pulled entries that are kept between records.
   pub only_begin : (style : Style) → style ≢ styles.Rules → (step : Step Op) → IsOfStyle style (records.Plain step) → (t p : Name) × (b : Option Tree) × (step ≡ Begin t p b)
   only_begin styles.Rules recorded step i = absurd (recorded refl)
   only_begin styles.Boosted recorded (Begin t p b) i = (t, p, b, refl)
@@ -160,7 +159,7 @@ module _ {Op State : Type 0} (O : Object Op State) (place : Op → ℕ) where
             open_all (λ ss. OnlyBreaks O styles.Dependent c ss) c t (Note t) (λ l. Note t ∷ unpulls t source l) (λ e. note_alone styles.Dependent r c t)
             (λ x h. note_only O styles.Dependent r c t (unpulls t source x.local) (λ m. unpulls_only O c t source x s h))
 
-    -- a note and then these steps
+    -- A Note and then these steps.
     noted : (t : Name) (steps : List (LocalEntry Op) → List (Step Op)) → ((x : Tx Op) → tx t c.opened ≡ Some x → OnlyBreaks O style c (steps x.local)) → OnlyBreaks O style c (where_open c t (Note t) (λ l. Note t ∷ steps l))
     noted t steps k = open_all (λ ss. OnlyBreaks O style c ss) c t (Note t) (λ l. Note t ∷ steps l) (λ e. note_alone style recorded c t) (λ x h. note_only O style recorded c t (steps x.local) (λ m. k x h))
 

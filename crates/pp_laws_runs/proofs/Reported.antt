@@ -99,12 +99,12 @@ module _ (limits : Limits) (bytes : List ℕ) (h : Lined Header) (there : (scan_
   start_listed (Some z) n b = in_start_row h.what.style (λ e. subst IsRecorded e recorded) (suc n) (in_two n (of_two _ _ n b))
 
   module _ (run : LinedSteps Op) (is : IsRun (object_of h.what) (translation_of h.what) (start_of h.what) (scan_within limits bytes).records run) where
-    -- the start
+    -- The start of the run.
     start_named : (n : ℕ) → IsVerdict (object_of h.what) (start_of h.what) (bare run) (Rejected 0 n) → In n (breakable rules.Start h.what.style)
     start_named n (inl v) = subst (λ (k : ℕ). In k (breakable rules.Start h.what.style)) (sym (same_number 0 0 n (suc v.0) v.2)) (start_listed (start_of h.what) v.0 v.1)
     start_named n (inr v) = absurd (let f = fails_at (object_of h.what) 1 (first (start_of h.what)) run 0 n v.1 in not_zero (length f.past) f.place)
 
-    -- a step
+    -- A step of the run.
     step_named : (i n : ℕ) (l : Lined (Step Op)) → IsVerdict (object_of h.what) (start_of h.what) (bare run) (Rejected (suc i) n) → slice_get run i ≡ Some l → In n (breakable (rule_of l.what) h.what.style)
     step_named i n l (inl v) got = absurd (let e : suc i ≡ 0 = same_step 0 (suc i) n (suc v.0) v.2 in omega (arith, e))
     step_named i n l (inr v) got = by is

@@ -59,7 +59,7 @@ scanned_rise limits bytes = by (overrun limits bytes)
     by None = all
     by (Some fault) = taken_rise (line_of fault - 1) (numbered_lines bytes) all
 
--- ---- their records
+-- ---- the records of the lines
 
 -- the second list of records is the first, or has one more record, on this line
 abbrev AddsAtMost : InputScan → ℕ → InputScan → Type 0

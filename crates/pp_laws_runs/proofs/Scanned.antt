@@ -1,4 +1,4 @@
--- What is read of a prefix is the first of what is read of the whole.
+-- What is read of a prefix is the first part of what is read of the whole.
 use Rattle.std.specs.Prelude.{◌≡◌, ◌≤◌, ◌+◌, ◌||◌, ℕ, Bool, true, false, List, [], ◌∷◌, ◌++◌, length}
 use Rattle.std.specs.Prelude.{cond, is_some, Option, None, Some, Result, Ok, Err}
 use Rattle.std.specs.Option.{option_or}
@@ -61,7 +61,7 @@ below n k h = omega (arith, h)
 at_least : (n k : ℕ) → k ≡ n → n ≤ k
 at_least n k h = omega (arith, h)
 
--- if these lines have no header, it is on a line behind them
+-- If these lines have no header, the header is on a line after them.
 header_behind : (before : List NumberedLine) (n : ℕ) (lines : List (List ℕ)) (h : Lined Header) → (scan_lines usual_limits.transactions before).header ≡ None → (scan_lines usual_limits.transactions (before ++ numbered_from n lines)).header ≡ Some h → n ≤ h.line
 header_behind before n [] h none is =
     absurd (let e : None ≡ Some h = sym none ∙ ap (λ (ls : List NumberedLine). (scan_lines usual_limits.transactions ls).header) (sym (append-nil before)) ∙ is in cc)
@@ -91,7 +91,7 @@ no_limit (Some (limits.TooManyLines line)) never h = absurd (cc)
 no_limit (Some (limits.LineTooLong line)) never h = absurd (cc)
 no_limit (Some limits.OutOfMemory) never h = absurd (never refl)
 
--- no line has one, and no limit is passed
+-- No line has a fault, and no limit is exceeded.
 sound_parts : (bytes : List ℕ) → IsFaultOf (scan bytes) None → ((scan_lines usual_limits.transactions (scanned_lines usual_limits bytes)).fault ≡ None) × (overrun usual_limits bytes ≡ None)
 sound_parts bytes (inl over) = absurd (let e : None ≡ Some (over.0, TooManySteps) = over.2 in cc)
 sound_parts bytes (inr none) =
@@ -100,7 +100,7 @@ sound_parts bytes (inr none) =
     let limit = both_none (limit_fault (overrun usual_limits bytes)) (no_header bytes sc.header) parts.1 in
     (parts.0, no_limit (overrun usual_limits bytes) (no_memory bytes) limit.0)
 
--- ---- its prefix
+-- ---- the prefix of such an input
 
 module _ (front back : List ℕ) (is : IsPrefixOfLines front back) (none : IsFaultOf (scan (front ++ back)) None) where
   abbrev sc : InputScan

@@ -87,7 +87,7 @@ pulls_committed {Op} t (g ∷ gs) c d all = (
 
 -- ---- what a step keeps
 
--- an entry with a new mark that is not pulled, or an entry as it was
+-- An entry that is pulled after another entry got a new mark was pulled before.
 pulled_was : {Op : Type 0} (id : ℕ) (m : Mark) (l : List (LocalEntry Op)) (e : LocalEntry Op) → m ≢ Pulled → In e (set_mark id m l) → e.mark ≡ Pulled → In e l
 pulled_was {Op} id m l e n i k =
     let f = from_map (λ (w : LocalEntry Op). cond (w.id == id) (record w { mark = m }) w) e l i in
@@ -98,7 +98,7 @@ pulled_was {Op} id m l e n i k =
     by d j false z = subst (λ (w : LocalEntry Op). In w l) (sym z) j
 
 module _ {Op State : Type 0} (O : Object Op State) (c : Config Op) (s : Sound O c) (pulled : PulledCommitted c) where
-  -- G has each committed entry of the shared log
+  -- The list G has each committed entry of the shared log.
   abbrev KeepsCommitted : List (SharedEntry Op) → Type 0
   KeepsCommitted G = (g : SharedEntry Op) → In g c.shared → g.committed ≡ true → (k : SharedEntry Op) × In k G × (k.id ≡ g.id) × (k.committed ≡ true)
 

@@ -38,7 +38,7 @@ NotPush (Cmt t) = Unit {0}
 NotPush (Quit t) = Unit {0}
 NotPush (Note t) = Unit {0}
 
--- if all of the shared log is committed, a step that pushes nothing keeps it so
+-- If all of the shared log is committed, it still is after a step that pushes nothing.
 shared_step : {Op : Type 0} (c : Config Op) (s : Step Op) → NotPush s → AllShared c → AllShared (then c s)
 shared_step c (Begin t p b) n all = all
 shared_step c (App t id op) n all = all

@@ -28,7 +28,7 @@ use Rattle.pp_model.specs.Config.{Begin, Step}
 use Rattle.pp_model.specs.Names.{Name}
 use Rattle.pp_objects.specs.declared.act.Op.{Op}
 
--- what is read after a step of reading
+-- What is read after an earlier part was read.
 read_next : {A B : Type 0} (Q : A → Type 0) (P : B → Type 0) (r : Result A RecordFault) (f : A → Result B RecordFault) → IfOk r Q → ((a : A) → Q a → IfOk (f a) P) → IfOk (r >>= f) P
 read_next Q P (Ok a) f q k = k a q
 read_next Q P (Err e) f q k = tt

@@ -36,7 +36,7 @@ timely_law sc never meets =
           (records_law (object_of h) (translation_of h) (start_of h) sc.records run never own.steps meets.start meets.steps),
     )
 
--- the same for the scan of any input: its lines rise
+-- The lines of the scan of any input rise, so each accepted scan is timely.
 pub meets_timely : (limits : Limits) (bytes : List ℕ) → EachStepMeets (scan_within limits bytes) → IsTimely (scan_within limits bytes)
 meets_timely limits bytes meets = timely_law (scan_within limits bytes) (rise_never_fall (scan_within limits bytes).records (rising_law limits bytes)) meets
 

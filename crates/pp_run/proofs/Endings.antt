@@ -40,7 +40,7 @@ report_printed : (s : Status) → IsVerdictOrSize s ⊎ (s ≡ statuses.InputFau
 report_printed s (inl verdict) = verdict_printed s verdict
 report_printed s (inr fault) = subst IsPrinted (sym fault) tt
 
--- it is not that of bad arguments
+-- The status of a report is not that of bad arguments.
 report_has_words : (s : Status) → IsVerdictOrSize s ⊎ (s ≡ statuses.InputFault) → s ≡ statuses.BadWords → ⊥
 report_has_words s (inl (inl decided)) bad = subst IsDecided bad decided
 report_has_words s (inl (inr large)) bad = let no : statuses.BadWords ≡ statuses.TooLarge = cc in cc
@@ -86,20 +86,20 @@ of_all (Some Views) left P f = λ bytes is. f bytes
 of_all (Some (Drill n)) left P f = f []
 of_all (Some (Focus name)) left P f = λ bytes is. f bytes
 
--- it holds a prefix of each output
+-- The sink holds a prefix of each output.
 nothing_printed : (o : Option Command) (left held : Option (List ℕ)) → OfInput o left (λ bytes. PrintsPrefixOnly o bytes held held)
 nothing_printed o left held = of_all o left (λ bytes. PrintsPrefixOnly o bytes held held) (λ bytes status text output. (0, omega arith, Appends-nil held))
 
 -- ---- what `perform` ensures
 
--- of the source and the counter, whatever it returns
+-- What `perform` ensures about the source and the counter, whatever it returns.
 pub record Performs (SameSource : Type 0) (k : Command) (input : Option (List ℕ)) (before after : ℕ) (n : Counts) : Type 0 where
   pub untouched : ¬ Reads (Some k) → SameSource
   pub count : n.failed_reads_before ≤ n.failed_reads
   pub most : RisesAtMost (Some k) input before after
   pub lines : (m : ℕ) → Some k ≡ Some (Drill m) → PrintsLines m
 
--- of the status and the text that it returns
+-- What `perform` ensures about the status and the text that it returns.
 pub record Reports (k : Command) (input rest : Option (List ℕ)) (before after : ℕ) (s : Status) (text : List ℕ) : Type 0 where
   pub output : OfInput (Some k) input (λ bytes. IsOutput (Some k) bytes s text)
   pub status : IsVerdictOrSize s ⊎ (s ≡ statuses.InputFault)

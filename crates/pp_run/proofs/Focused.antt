@@ -1,4 +1,4 @@
--- What is printed of an input that `focus` restricts.
+-- What is printed for an input that `focus` restricts.
 use Rattle.std.specs.Prelude.{◌≡◌, ◌↔◌, ℕ, List, Option, None, Some}
 use Rattle.std.proofs.Common.{ap, inl, inr, refl}
 use Rattle.pp_core.specs.declared.status.Status.{Status}

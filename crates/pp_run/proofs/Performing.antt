@@ -15,18 +15,18 @@ pub answered : (s : Status) → IsDecided s ⊎ (s ≡ statuses.InputFault) → 
 answered s (inl decided) = inl (inl decided)
 answered s (inr fault) = inr fault
 
--- so is accepted, rejected or a fault
+-- Accepted, rejected or a fault is a status of `perform`.
 pub checked : (s : Status) → (s ≡ statuses.Accepted) ⊎ (s ≡ statuses.Rejected) ⊎ (s ≡ statuses.InputFault) → IsVerdictOrSize s ⊎ (s ≡ statuses.InputFault)
 checked s (inl accepted) = inl (inl (subst IsDecided (sym accepted) tt))
 checked s (inr (inl rejected)) = inl (inl (subst IsDecided (sym rejected) tt))
 checked s (inr (inr fault)) = inr fault
 
--- so is accepted or a fault
+-- Accepted or a fault is a status of `perform`.
 pub focused : (s : Status) → IsToldStatus s → IsVerdictOrSize s ⊎ (s ≡ statuses.InputFault)
 focused s (inl accepted) = inl (inl (subst IsDecided (sym accepted) tt))
 focused s (inr fault) = inr fault
 
--- so is a verdict, a fault, or an output above a limit
+-- A verdict, a fault, or an output above a limit is a status of `perform`.
 pub sized : (s : Status) → IsDecided s ⊎ (s ≡ statuses.InputFault) ⊎ (s ≡ statuses.TooLarge) → IsVerdictOrSize s ⊎ (s ≡ statuses.InputFault)
 sized s (inl decided) = inl (inl decided)
 sized s (inr (inl fault)) = inr fault
@@ -45,13 +45,13 @@ pub decided_fits : (s : Status) → IsDecided s ⊎ (s ≡ statuses.InputFault) 
 decided_fits s (inl decided) large = subst IsDecided large decided
 decided_fits s (inr fault) large = let no : statuses.InputFault ≡ statuses.TooLarge = cc in cc
 
--- neither does accepted, rejected or a fault
+-- Accepted, rejected or a fault does not say that the output is above a limit.
 pub checked_fits : (s : Status) → (s ≡ statuses.Accepted) ⊎ (s ≡ statuses.Rejected) ⊎ (s ≡ statuses.InputFault) → s ≡ statuses.TooLarge → ⊥
 checked_fits s (inl accepted) large = let no : statuses.Accepted ≡ statuses.TooLarge = cc in cc
 checked_fits s (inr (inl rejected)) large = let no : statuses.Rejected ≡ statuses.TooLarge = cc in cc
 checked_fits s (inr (inr fault)) large = let no : statuses.InputFault ≡ statuses.TooLarge = cc in cc
 
--- neither does accepted or a fault
+-- Accepted or a fault does not say that the output is above a limit.
 pub focused_fits : (s : Status) → IsToldStatus s → s ≡ statuses.TooLarge → ⊥
 focused_fits s (inl accepted) large = let no : statuses.Accepted ≡ statuses.TooLarge = cc in cc
 focused_fits s (inr fault) large = let no : statuses.InputFault ≡ statuses.TooLarge = cc in cc

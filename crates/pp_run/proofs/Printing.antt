@@ -30,7 +30,7 @@ one_output (Some Views) bytes s s' t t' a b = one_views bytes s s' t t' a b
 one_output (Some (Drill n)) bytes s s' t t' a b = one_drilled n s s' t t' a b
 one_output (Some (Focus name)) bytes s s' t t' a b = one_focused name bytes s s' t t' a b
 
--- if P implies Q for all bytes, then P of an input implies Q of it
+-- If P implies Q for all bytes, and P is true of an input, Q is true of it.
 of_input : (o : Option Command) (left : Option (List ℕ)) (P Q : List ℕ → Type 0) → ((bytes : List ℕ) → P bytes → Q bytes) → OfInput o left P → OfInput o left Q
 of_input None left P Q f p = f [] p
 of_input (Some Certify) left P Q f p = λ bytes is. f bytes (p bytes is)

@@ -84,7 +84,7 @@ swaps_meets : (bytes text : List ℕ) → IsSwaps bytes statuses.Accepted text �
 swaps_meets bytes text (how, report, certified, told) =
     certified_meets bytes report (subst (λ (s : Status). IsCertified bytes s report) (swaps_how (scan bytes) how report text told) certified)
 
--- the same for `views`
+-- If `views` accepts an input, its start and steps meet their criteria.
 views_meets : (bytes text : List ℕ) → IsViews bytes statuses.Accepted text → EachStepMeets (scan bytes)
 views_meets bytes text (how, report, certified, told) =
     certified_meets bytes report (subst (λ (s : Status). IsCertified bytes s report) (accepted_how (scan bytes) how report text told) certified)
@@ -96,14 +96,14 @@ accepted_of sc header decision text here (inl (hold, is)) told = record { header
 accepted_of sc header decision text here (inr (line, fails, is)) told =
     absurd (let t = subst (λ (d : Decision). IsDecisionTold sc.header d statuses.Accepted text) is told in let no : statuses.Accepted ≡ statuses.Rejected = t.0 in cc)
 
--- the same for an input with its fault, which is None here
+-- If `quick` decides that an input without a fault is accepted, its start and steps meet their criteria.
 accepted_behind : (fault : Option (ℕ × Cause)) (sc : InputScan) (decision : Decision) (text : List ℕ) → IsDecisionBehind fault sc decision
     → IsDecisionTold sc.header decision statuses.Accepted text → EachStepMeets sc
 accepted_behind (Some fault) sc decision text is told =
     absurd (let t = subst (λ (d : Decision). IsDecisionTold sc.header d statuses.Accepted text) is told in let no : statuses.Accepted ≡ statuses.InputFault = t.0 in cc)
 accepted_behind None sc decision text (header, here, is) told = accepted_of sc header decision text here is told
 
--- the same for what `quick` prints
+-- If `quick` accepts an input, its start and steps meet their criteria.
 quick_meets : (bytes text : List ℕ) → IsQuick bytes statuses.Accepted text → EachStepMeets (scan bytes)
 quick_meets bytes text (decision, is, told) = accepted_behind (quick_fault (scan bytes)) (scan bytes) decision text is told
 

@@ -4,7 +4,7 @@ use Rattle.pp_certificate_lines.specs.Reading.{numbers_of}
 use Rattle.pp_certificate_lines.proofs.Parsed.{behind}
 use Rattle.pp_certificate_lines.proofs.read.numbers_among.Given as goal
 
--- the numbers so far, and those of what is left
+-- The numbers so far, and then those of the values that are left.
 abbrev pub invariant-loop-value : goal.invariant-loop-value
 invariant-loop-value l = record {
   rest : behind l.list (numbers_of (items_view (drop l.value-index l.values)))

@@ -11,21 +11,21 @@ use Rattle.pp_cmd_recheck.proofs.check_input.check_input.Goals as goal
 pub read_lines-requires : goal.read_lines-requires
 read_lines-requires g c = leads_nothing c.args.ticks.now c.new.result c.new.ensures.covers
 
--- all lines were taken
+-- All lines were taken.
 pub returns-in_ok-input-in-Ok-clause-found : goal.returns-in_ok-input-in-Ok-clause-found
 returns-in_ok-input-in-Ok-clause-found g c =
     all_found c.args.ticks.now c.read_lines.new.ticks (g.S.Source.left c.args.source.now)
     (g.S.Source.left c.read_lines.new.source) c.in-Ok.checking c.in-Ok.ensures.ok
     c.in-Ok.ensures.end c.in_ok-input-in-Ok.input c.in_ok-input-in-Ok.ensures.found
 
--- a line is not taken, or a limit is passed
+-- A line is refused, or a limit is exceeded.
 pub returns-in-Err-Fault-clause-found : goal.returns-in-Err-Fault-clause-found
 returns-in-Err-Fault-clause-found g c = λ bytes is.
     let left = g.S.Source.left c.args.source.now in
     let faulty = subst (λ stop. IfInputFault stop (λ at fault. (bs : List ℕ) → g.S.Source.left c.args.source.now ≡ Some bs → HasInputFault (check_reading c.args.ticks.now) bs at fault)) c.in-Err-Fault.field-0-is c.in-Err-Fault.ensures.stop in
     fault_found c.args.ticks.now left c.in-Err-Fault.line c.in-Err-Fault.fault faulty bytes is
 
--- a read failed
+-- A read failed.
 pub returns-in-Err-Failure-clause-read_fault : goal.returns-in-Err-Failure-clause-read_fault
 returns-in-Err-Failure-clause-read_fault g c = λ failed.
     let same : c.in-Err-Failure.failure ≡ ReadFault = cc in

@@ -17,7 +17,7 @@ use Rattle.pp_records.specs.Runs.{LinedSteps}
 use Rattle.pp_judge.specs.declared.observer.Blind.{Blind}
 use Rattle.pp_cmd_swaps.proofs.command.swaps.Goals as goal
 
--- an observer that sees nothing
+-- An observer that sees nothing.
 abbrev Nothing : Header → LinedSteps Op → Blind → Type 0
 Nothing header steps w = Unit {0}
 

@@ -13,7 +13,7 @@ use Rattle.pp_cmd_views.specs.Outputs.{IsViews}
 use Rattle.pp_cmd_views.specs.Taken.{HasSeenSteps, HasSteps}
 use Rattle.pp_cmd_views.proofs.command.views.Goals as goal
 
--- ---- what is told
+-- ---- the text
 
 pub returns-in_ok-text-in-Fault-clause-output : goal.returns-in_ok-text-in-Fault-clause-output
 returns-in_ok-text-in-Fault-clause-output g c = λ bytes is.
