@@ -16,20 +16,13 @@ use Rattle.pp_model.proofs.Logs.{found_tx, on_each, in_on_same}
 use Rattle.pp_model.proofs.Begin.{before_added}
 use Rattle.pp_model.proofs.Alone.{there_is}
 use Rattle.pp_model.proofs.Keeps.{step_keeps}
-use Rattle.pp_model.proofs.Push.{mark_at, mark_cases, remark}
+use Rattle.pp_model.proofs.Push.{mark_at, remark, marked_other}
 use Rattle.pp_records.specs.Expansions.{stands_in}
 use Rattle.pp_summary.specs.Boosted.{PlacesSwap, Follows, Boosted, BoostedBut, Anchored, IsDoneAt, ComesBefore, rest}
-use Rattle.pp_summary.proofs.Entries.{is_there, entry_in, was_false}
 use Rattle.pp_summary.proofs.Front.{stands, end_allowed}
-use Rattle.pp_summary.proofs.Lookups.{tx_is, mark_is, there_of}
-use Rattle.pp_summary.proofs.Entries.{same_or_not}
 use Rattle.pp_model.proofs.Names.{name_or_not}
-
--- A mark at an id that no entry has leaves a local log the same.
-pub marked_other : {Op : Type 0} (id : ℕ) (m : Mark) (l : List (LocalEntry Op)) → ((e : LocalEntry Op) → In e l → e.id ≢ id) → set_mark id m l ≡ l
-marked_other id m [] h = refl
-marked_other {Op} id m (e ∷ l) h =
-    ap (λ (w : LocalEntry Op). w ∷ set_mark id m l) (elim (mark_cases id m e) [ inl r ↦ absurd (h e (inl refl) r.0) | inr r ↦ r.1 ]) ∙ ap (λ (w : List (LocalEntry Op)). e ∷ w) (marked_other id m l (λ a i. h a (inr i)))
+use Rattle.pp_laws_summary.proofs.Entries.{is_there, entry_in, was_false, same_or_not}
+use Rattle.pp_laws_summary.proofs.Lookups.{tx_is, mark_is, there_of}
 
 -- A mark at the id of the last entry alone changes only the mark of this entry.
 pub marked_last : {Op : Type 0} (id : ℕ) (m : Mark) (l : List (LocalEntry Op)) (e : LocalEntry Op) → ((a : LocalEntry Op) → In a l → a.id ≢ id) → e.id ≡ id → set_mark id m (l ++ e ∷ []) ≡ l ++ remark m e ∷ []

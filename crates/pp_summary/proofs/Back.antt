@@ -22,23 +22,12 @@ use Rattle.pp_model.proofs.Push.{remark, elsewhere}
 use Rattle.pp_model.proofs.Serial.{allowed_front}
 use Rattle.pp_records.specs.Expansions.{taken_at, taken_out}
 use Rattle.pp_summary.specs.Boosted.{PlacesSwap, Follows, BoostedBut, Anchored}
-use Rattle.pp_summary.proofs.Entries.{ops_items}
-use Rattle.pp_summary.proofs.Lookups.{tx_is, mark_is, done_by_other}
 use Rattle.pp_summary.proofs.Append.{marked_last}
 use Rattle.pp_records.proofs.Ends.{after_append, runs_append}
 use Rattle.std.proofs.lemmas.List.Elements.{filter-append}
-
--- The last element of a list with an element at its end is this element.
-pub last_snoc : {A : Type 0} (l : List A) (x : A) → last (l ++ x ∷ []) ≡ Some x
-last_snoc [] x = refl
-last_snoc (y ∷ []) x = refl
-last_snoc (y ∷ z ∷ l) x = last_snoc (z ∷ l) x
-
--- A list with an element at its end is the list again without its last element.
-pub but_last_snoc : {A : Type 0} (l : List A) (x : A) → but_last (l ++ x ∷ []) ≡ l
-but_last_snoc [] x = refl
-but_last_snoc (y ∷ []) x = refl
-but_last_snoc {A} (y ∷ z ∷ l) x = ap (λ (w : List A). y ∷ w) (but_last_snoc (z ∷ l) x)
+use Rattle.pp_laws_summary.proofs.Entries.{ops_items}
+use Rattle.pp_laws_summary.proofs.Lookups.{tx_is, mark_is, done_by_other}
+use Rattle.pp_laws_summary.proofs.BackAll.{last_snoc, but_last_snoc}
 
 -- A local log with a last entry of an id of its own is the log again without this id.
 pub without_last : {Op : Type 0} (l : List (LocalEntry Op)) (e : LocalEntry Op) → ((a : LocalEntry Op) → In a l → a.id ≢ e.id) → without_local e.id (l ++ e ∷ []) ≡ l

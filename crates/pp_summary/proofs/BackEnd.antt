@@ -17,9 +17,11 @@ use Rattle.pp_records.specs.Expansions.{taken_at, taken_out}
 use Rattle.pp_summary.specs.Brief.{without_owner}
 use Rattle.pp_summary.specs.Boosted.{PlacesSwap, BoostedBut}
 use Rattle.pp_summary.proofs.Append.{marked_last}
-use Rattle.pp_summary.proofs.Relog.{on_log-twice, filter_within}
+use Rattle.pp_summary.proofs.Relog.{on_log-twice}
 use Rattle.pp_records.proofs.Ends.{after_append}
-use Rattle.pp_summary.proofs.Back.{Left, all_back, without_last, but_last_snoc}
+use Rattle.pp_summary.proofs.Back.{Left, all_back, without_last}
+use Rattle.pp_laws_summary.proofs.Relog.{filter_within}
+use Rattle.pp_laws_summary.proofs.BackAll.{but_last_snoc}
 
 -- Since c0, the log of t has become P, entries of t have left the shared log, and nothing else has changed.
 pub record Since {Op : Type 0} (c0 : Config Op) (t : Name) (P : List (LocalEntry Op)) (c : Config Op) : Type 0 where

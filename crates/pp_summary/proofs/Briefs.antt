@@ -25,9 +25,6 @@ use Rattle.pp_summary.specs.Runs.{IsBoosted}
 use Rattle.pp_summary.specs.Boosted.{PlacesSwap, Boosted, Good, GoodOp, OfOpen}
 use Rattle.pp_summary.specs.Brief.{BriefTx, any_at, shared_ids, is_missed, missed, brief_tx, brief, brief_of, BriefGood, BriefGoodOp, InBrief, at_brief, without_brief, without_owner, grown, missing_more, emptied, own_list, brief_then}
 use Rattle.pp_summary.specs.Laws.{IsBriefed}
-use Rattle.pp_summary.proofs.Entries.{is_there, not_there, was_false, or_true, or_right}
-use Rattle.pp_summary.proofs.Lookups.{and_true, done_by_other}
-use Rattle.pp_summary.proofs.Relog.{map_map, same_bool, filter_same, filter_none, filter_within, filter_map, on_log-same, without_on}
 use Rattle.pp_summary.proofs.OnOp.{as_boosted_but, op_runs, op_grown, Grown}
 use Rattle.pp_summary.proofs.OnCommit.{commit_rest}
 use Rattle.pp_records.proofs.Ends.{after_append}
@@ -35,24 +32,11 @@ use Rattle.pp_summary.proofs.BackEnd.{all_since, none_owned}
 use Rattle.pp_summary.proofs.Deciding.{by_record, whole}
 use Rattle.std.proofs.lemmas.Bool.{and_parts}
 use Rattle.std.proofs.lemmas.List.Elements.{filter-append}
-
--- An id that `has_id` finds is in the list.
-pub has_in : (i : ℕ) (js : List ℕ) → has_id i js ≡ true → In i js
-has_in i [] e = absurd (cc)
-has_in i (j ∷ js) e = elim (or_true (j == i) (has_id i js) e) [ inl k ↦ inl (sym (eqb-true j i k)) | inr k ↦ inr (has_in i js k) ]
-
--- An id that is in the list is found by `has_id`.
-pub in_has : (i : ℕ) (js : List ℕ) → In i js → has_id i js ≡ true
-in_has i [] h = absurd h
-in_has i (j ∷ js) (inl e) = ap (λ (b : Bool). b || has_id i js) (eq-eqb j i (sym e))
-in_has i (j ∷ js) (inr h) = or_right (j == i) (has_id i js) (in_has i js h)
-
-or_left : (a b : Bool) → a ≡ true → (a || b) ≡ true
-or_left a b e = ap (λ (z : Bool). z || b) e
-
-and_false : (a : Bool) → (a && false) ≡ false
-and_false true = refl
-and_false false = refl
+use Rattle.pp_laws_summary.proofs.Entries.{is_there, not_there, was_false, or_true, or_right, has_in, in_has}
+use Rattle.pp_laws_summary.proofs.Lookups.{and_true, done_by_other}
+use Rattle.pp_laws_summary.proofs.Relog.{map_map, same_bool, filter_same, filter_none, filter_within, filter_map, on_log-same, without_on}
+use Rattle.std.proofs.Math.Bool.{and-false}
+use Rattle.pp_body.proofs.Patterns.{or_left}
 
 -- No boolean is both true and false.
 pub differ : (b : Bool) → b ≡ true → b ≡ false → ⊥
@@ -98,7 +82,7 @@ has_missed {Op} place G L d g i = same_bool (has_id g.id (missed place G L)) (is
     (λ h. in_has g.id (missed place G L) (in_map (λ (w : SharedEntry Op). w.id) g (filter (is_missed place L) G) (in_filter (is_missed place L) g G i h)))
 
 missed_none : {Op : Type 0} (place : Op → ℕ) (G : List (SharedEntry Op)) → missed place G [] ≡ []
-missed_none {Op} place G = ap (λ (w : List (SharedEntry Op)). shared_ids w) (filter_none (is_missed place []) G (λ g i. and_false g.committed))
+missed_none {Op} place G = ap (λ (w : List (SharedEntry Op)). shared_ids w) (filter_none (is_missed place []) G (λ g i. and-false g.committed))
 
 -- An uncommitted entry at the end of the shared log is not missed.
 missed_wider : {Op : Type 0} (place : Op → ℕ) (G : List (SharedEntry Op)) (L : List (LocalEntry Op)) (t : Name) (p : Item Op) → missed place (G ++ as_shared t false p ∷ []) L ≡ missed place G L

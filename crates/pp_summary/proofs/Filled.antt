@@ -44,7 +44,8 @@ in_set {X} t (d ∷ es) x e h = by (t =ⁿ d.0) h (λ k. in_set t es x e k)
 abbrev pub Apart : {X : Type 0} → List (Name × X) → Type 0
 Apart es = (s t : Name) → Before s t (keys_of es) → s ≢ t
 
-in_keys : {X : Type 0} (es : List (Name × X)) (e : Name × X) → In e es → In e.0 (keys_of es)
+-- The name of each entry is among the names.
+pub in_keys : {X : Type 0} (es : List (Name × X)) (e : Name × X) → In e es → In e.0 (keys_of es)
 in_keys [] e h = absurd h
 in_keys {X} (d ∷ es) e (inl h) = inl (ap (λ (w : Name × X). w.0) h)
 in_keys (d ∷ es) e (inr h) = inr (in_keys es e h)

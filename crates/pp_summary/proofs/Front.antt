@@ -12,8 +12,8 @@ use Rattle.pp_model.proofs.Lists.{in_left, in_right, in_cases, before_cases, bef
 use Rattle.pp_model.proofs.Permute.{permuted}
 use Rattle.pp_records.specs.Expansions.{stands_in}
 use Rattle.pp_summary.specs.Boosted.{PlacesSwap, Follows, ComesBefore, rest}
-use Rattle.pp_summary.proofs.Entries.{is_there, entry_in, was_false, ops_items, ops_local, drawn_front}
-use Rattle.pp_summary.proofs.Entries.{same_or_not}
+use Rattle.pp_summary.proofs.Entries.{drawn_front}
+use Rattle.pp_laws_summary.proofs.Entries.{is_there, entry_in, was_false, ops_items, ops_local, same_or_not}
 
 module _ {Op State : Type 0} (O : Object Op State) (place : Op → ℕ) (apart : PlacesSwap O place)
     (c : Config Op) (s : Sound O c) (x : Tx Op) (ix : In x c.opened) (f : Follows O place c.shared x.local) where

@@ -26,12 +26,13 @@ use Rattle.pp_summary.specs.Boosted.{Boosted, PlacesSwap}
 use Rattle.pp_summary.specs.Brief.{Brief, BriefGood, BriefTx, brief_of, brief_then, brief_tx, without_owner}
 use Rattle.pp_summary.specs.Held.{Held, IsHeldOf}
 use Rattle.pp_summary.specs.Runs.{IsBoosted}
-use Rattle.pp_summary.proofs.Briefs.{brief_of_is, briefed, differ, has_in, in_has, to_brief}
+use Rattle.pp_summary.proofs.Briefs.{brief_of_is, briefed, differ, to_brief}
 use Rattle.pp_summary.proofs.Fitting.{swaps_everywhere}
 use Rattle.pp_summary.proofs.Leave.{moved, own_before}
-use Rattle.pp_summary.proofs.Lookups.{done_by_other}
 use Rattle.pp_summary.proofs.Deciding.{quick}
-use Rattle.pp_summary.proofs.Relog.{filter_same, same_bool}
+use Rattle.pp_laws_summary.proofs.Entries.{has_in, in_has}
+use Rattle.pp_laws_summary.proofs.Lookups.{done_by_other}
+use Rattle.pp_laws_summary.proofs.Relog.{filter_same, same_bool}
 
 -- Operations at different places swap, in each shape.
 pub apart_of : {Shape State Op Undo : Type 0} (o : Object Shape State Op Undo) (place : Op → ℕ) (SameAt : ℕ → State → State → Type 0) → IsPlaced o place SameAt → (shape : Shape) → PlacesSwap (rules_of o shape) place

@@ -27,12 +27,12 @@ use Rattle.pp_summary.specs.Moving.{IsGood}
 use Rattle.pp_summary.specs.Passing.{HaveEntries, HaveOwnIds, LetAllPass, StopsOne}
 use Rattle.pp_summary.specs.Shown.{KeepsQuick, Kept, at, calls_of, as_held, in_slot, is_unseen, ids_behind, open_in, shown, shown_tx, threads_of, unseen_at}
 use Rattle.pp_summary.specs.declared.parts.OpenTx.{OpenTx}
-use Rattle.pp_summary.proofs.Briefs.{has_in, in_has}
 use Rattle.pp_summary.proofs.Filled.{begun_is}
 use Rattle.pp_summary.proofs.Items.{in_drop}
 use Rattle.pp_summary.proofs.Moving.{committed_there, fine_of, open_is, open_there}
 use Rattle.pp_summary.proofs.HeldOf.{distinct, done_stands, fits, new_id, own_stands}
 use Rattle.pp_summary.proofs.Unseen.{has_unseen}
+use Rattle.pp_laws_summary.proofs.Entries.{has_in, in_has}
 
 -- An id for which the test says that it was used is among the ids.
 pub used_in : (l : List ℕ) (id : ℕ) → list_any (λ i. id == i) l ≡ true → In id l

@@ -15,9 +15,9 @@ use Rattle.pp_model.proofs.Permute.{permuted}
 use Rattle.pp_model.proofs.Serial.{allowed_front}
 use Rattle.pp_summary.specs.Boosted.{PlacesSwap, Boosted}
 use Rattle.pp_summary.specs.Laws.{without_ids}
-use Rattle.pp_summary.proofs.Entries.{ops_items, was_false}
-use Rattle.pp_summary.proofs.Lookups.{done_by_other}
-use Rattle.pp_summary.proofs.Briefs.{has_in, in_has, differ}
+use Rattle.pp_summary.proofs.Briefs.{differ}
+use Rattle.pp_laws_summary.proofs.Entries.{ops_items, was_false, has_in, in_has}
+use Rattle.pp_laws_summary.proofs.Lookups.{done_by_other}
 
 module _ {Op State : Type 0} (O : Object Op State) (place : Op → ℕ) (apart : PlacesSwap O place) (c : Config Op) (b : Boosted O place c)
     (x : Tx Op) (ix : In x c.opened) (front last : List (Item Op)) (cut : own_items x.local ≡ front ++ last) where

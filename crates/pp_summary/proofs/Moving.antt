@@ -2,8 +2,8 @@
 use Rattle.std.specs.Prelude.{◌≡◌, ◌≢◌, ◌==◌, ◌+◌, ◌≤◌, ℕ, suc, nat_eq, Bool, true, false, cond, not, ◌||◌, List, [], ◌∷◌, ◌++◌, filter, length, reverse, is_some, option_map, Option, None, Some, IsTrue}
 use Rattle.std.specs.List.{list_any}
 use Rattle.std.specs.Map.{keys_of, lookup, set_value}
-use Rattle.std.proofs.Common.{refl, sym, ap, subst, ◌∙◌, append_assoc, arith, length-append}
-use Rattle.std.proofs.lemmas.List.{append-nil, length-map, map-append}
+use Rattle.std.proofs.Common.{refl, sym, ap, subst, ◌∙◌, arith, length-append}
+use Rattle.std.proofs.lemmas.List.{length-map, map-append}
 use Rattle.std.proofs.lemmas.Option.{same_Some}
 use Rattle.std.proofs.lemmas.Bool.{eqb-true}
 use mathlib.Core.Logic.{inl, inr}
@@ -15,7 +15,7 @@ use Rattle.pp_model.specs.Config.{Begin, SharedEntry, as_shared, commit_all, sha
 use Rattle.pp_model.specs.Lists.{Before, In}
 use Rattle.pp_model.specs.Names.{Name, ◌=ⁿ◌}
 use Rattle.pp_model.specs.Sound.{serial_items}
-use Rattle.pp_model.proofs.Lists.{from_filter, from_map, in_cases, in_left, in_right}
+use Rattle.pp_model.proofs.Lists.{from_filter, from_map, in_cases}
 use Rattle.pp_model.proofs.Names.{names-true, names_tell}
 use Rattle.pp_model.proofs.Commit.{commit}
 use Rattle.pp_model.proofs.Trace.{map_same}
@@ -35,10 +35,10 @@ use Rattle.pp_summary.specs.declared.parts.OpenTx.{OpenTx}
 use Rattle.pp_summary.proofs.Committed.{ids_append, item_of_id, serial_more}
 use Rattle.pp_summary.proofs.Filled.{Apart, among, filled_more, filled_out, filled_set, found_is, in_set, keys_stay}
 use Rattle.pp_summary.proofs.OnCommit.{commit_rest}
-use Rattle.pp_summary.proofs.Relog.{map_id, map_map}
 use Rattle.pp_summary.proofs.HeldOf.{advance, distinct, done_stands, is_owned, names_apart, own_stands, without_is}
 use Rattle.pp_summary.proofs.Threads.{threads_less, threads_more}
 use Rattle.pp_summary.proofs.Unseen.{unseen_committed, unseen_fewer, unseen_grown, unseen_none, unseen_wider}
+use Rattle.pp_laws_summary.proofs.Relog.{map_id, map_map}
 
 -- Briefs with equal parts are equal.
 pub same_brief : {Op : Type 0} (a b : List Name) (c d : List ℕ) (e f : List (BriefTx Op)) (g h : List (SharedEntry Op)) (i j : List (CommittedTx Op)) → a ≡ b → c ≡ d → e ≡ f → g ≡ h → i ≡ j

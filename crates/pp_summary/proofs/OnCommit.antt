@@ -18,7 +18,7 @@ use Rattle.pp_model.proofs.Alone.{there_is}
 use Rattle.pp_model.proofs.Keeps.{step_keeps}
 use Rattle.pp_summary.specs.Boosted.{PlacesSwap, Follows, Boosted, Anchored, ComesBefore}
 use Rattle.pp_summary.proofs.Front.{turn, is_item}
-use Rattle.pp_summary.proofs.Lookups.{there_of}
+use Rattle.pp_laws_summary.proofs.Lookups.{there_of}
 
 -- A BEGIN that meets its criteria keeps a configuration boosted.
 pub begin_boosted : {Op State : Type 0} (O : Object Op State) (place : Op → ℕ) (c : Config Op) → Boosted O place c → (t p : Name) (w : Option Tree) → Meets O c (Begin t p w) → Boosted O place (then c (Begin t p w))

@@ -15,12 +15,13 @@ use Rattle.pp_records.specs.Expansions.{stands_in, refresh}
 use Rattle.pp_summary.specs.Boosted.{PlacesSwap, Boosted, BoostedBut, Anchored, GoodOp, IsDoneAt, IsOwnAt}
 use Rattle.pp_model.proofs.Local.{shared_used}
 use Rattle.pp_model.proofs.Steps.{own_items-append}
-use Rattle.pp_summary.proofs.Entries.{is_there, entry_in}
 use Rattle.pp_summary.proofs.Front.{is_item}
 use Rattle.pp_summary.proofs.Refresh.{Refreshing, refreshed, Goal}
 use Rattle.pp_summary.proofs.Append.{Asked, asked_app, asked_push, app_holds, push_holds, marked_last, then_two, two_boosted}
-use Rattle.pp_summary.proofs.Relog.{on_log-same, on_log-twice}
+use Rattle.pp_summary.proofs.Relog.{on_log-twice}
 use Rattle.pp_records.proofs.Ends.{after_append, runs_append, runs_front, runs_back}
+use Rattle.pp_laws_summary.proofs.Entries.{is_there, entry_in}
+use Rattle.pp_laws_summary.proofs.Relog.{on_log-same}
 
 -- A boosted configuration is boosted but for one transaction.
 pub as_boosted_but : {Op State : Type 0} (O : Object Op State) (place : Op → ℕ) (t : Name) (c : Config Op) → Boosted O place c → BoostedBut O place t c

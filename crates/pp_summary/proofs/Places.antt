@@ -1,5 +1,5 @@
 -- How long filtered lists are, and counts of places.
-use Rattle.std.specs.Prelude.{◌≡◌, ◌≢◌, ◌⊎◌, ◌==◌, ◌≤◌, ◌+◌, ℕ, zero, suc, nat_eq, Bool, true, false, cond, not, ◌&&◌, List, [], ◌∷◌, ◌++◌, filter, length, map, Some}
+use Rattle.std.specs.Prelude.{◌≡◌, ◌≢◌, ◌⊎◌, ◌==◌, ◌≤◌, ◌+◌, ℕ, suc, nat_eq, Bool, true, false, cond, not, ◌&&◌, List, [], ◌∷◌, ◌++◌, filter, length, map, Some}
 use Rattle.std.specs.Map.{keys_of, lookup}
 use Rattle.std.proofs.Common.{refl, sym, ap, subst, ◌∙◌, arith, length-append}
 use Rattle.std.proofs.lemmas.Bool.{eqb-true, eq-eqb, ne_eqb}
@@ -10,7 +10,7 @@ use mathlib.Core.Logic.{inl, inr}
 use Rattle.pp_model.specs.Lists.{Before, In}
 use Rattle.pp_model.proofs.Lists.{before_from_filter, before_from_map, from_filter, from_map, in_cases, in_filter, in_left, in_map, in_right, split_at}
 use Rattle.pp_summary.specs.Seen.{HaveOwnPlaces, seen_total}
-use Rattle.pp_summary.proofs.Relog.{filter_within}
+use Rattle.pp_laws_summary.proofs.Relog.{filter_within}
 
 module _ {A : Type 0} where
   -- A list is as long as its elements that pass a test and those that do not, together.

@@ -14,11 +14,11 @@ use Rattle.pp_model.proofs.Alone.{there_is}
 use Rattle.pp_model.proofs.Keeps.{step_keeps}
 use Rattle.pp_records.specs.Expansions.{stands_in}
 use Rattle.pp_summary.specs.Boosted.{PlacesSwap, Follows, BoostedBut, Anchored, IsDoneAt, ComesBefore, rest}
-use Rattle.pp_summary.proofs.Entries.{is_there, entry_in, was_false}
 use Rattle.pp_summary.proofs.Front.{next_allowed}
-use Rattle.pp_summary.proofs.Lookups.{there_of, other_is, done_by_other, open_before_done, in_first_part}
-use Rattle.pp_summary.proofs.Entries.{same_or_not}
+use Rattle.pp_summary.proofs.Lookups.{open_before_done, in_first_part}
 use Rattle.pp_model.specs.Config.{as_pulled}
+use Rattle.pp_laws_summary.proofs.Entries.{is_there, entry_in, was_false, same_or_not}
+use Rattle.pp_laws_summary.proofs.Lookups.{there_of, other_is, done_by_other}
 
 module _ {Op State : Type 0} (O : Object Op State) (place : Op → ℕ) (apart : PlacesSwap O place)
     (t : Name) (c : Config Op) (b : BoostedBut O place t c) (x : Tx Op) (lookup : tx t c.opened ≡ Some x)

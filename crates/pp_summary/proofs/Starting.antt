@@ -5,7 +5,7 @@ use Rattle.std.specs.Map.{keys_of, lookup}
 use Rattle.std.proofs.Common.{refl, sym, ap, subst, ◌∙◌, append_assoc, arith, get_or}
 use Rattle.std.proofs.lemmas.Bool.{eqb-true, false_from_ne_true}
 use Rattle.std.proofs.lemmas.List.{append-nil, drop_more, length-map, map-append, take_more}
-use Rattle.std.proofs.lemmas.List.Elements.{All-get_or, All-head, All-tail}
+use Rattle.std.proofs.lemmas.List.Elements.{All-get_or}
 use mathlib.Core.Logic.{inl, inr}
 use Rattle.pp_core.specs.declared.entry.CommittedTx.{CommittedTx}
 use Rattle.pp_core.specs.declared.entry.Item.{Item}
@@ -33,6 +33,7 @@ use Rattle.pp_summary.specs.declared.parts.OpenTx.{OpenTx}
 use Rattle.pp_summary.proofs.Deciding.{quick}
 use Rattle.pp_summary.proofs.Judging.{not_used, used_in}
 use Rattle.pp_summary.proofs.Moving.{same_brief}
+use Rattle.pp_kind.proofs.Standing.{of_each}
 
 -- The item p at position k.
 module _ {Op : Type 0} (items : List (Item Op)) (k : ℕ) (p : Item Op) (lt : k < length items) (is : p ≡ get_or items k p) where
@@ -146,12 +147,6 @@ committed_all {Op} t (p ∷ l) =
     ap (λ (b : Bool). cond b (as_shared t true p) (as_shared t false p) ∷ commit_all t (start_entries t l)) (eq-names t t refl)
     ∙ ap (λ (w : List (SharedEntry Op)). as_shared t true p ∷ w) (committed_all t l)
 
--- A property of all items is one of each item.
-all_in : {X : Type 0} (P : X → Type 0) (l : List X) (x : X) → All P l → In x l → P x
-all_in P [] x all i = absurd i
-all_in P (y ∷ l) x all (inl e) = subst P (sym e) (All-head P y l all)
-all_in P (y ∷ l) x all (inr i) = all_in P l x (All-tail P y l all) i
-
 -- A list without elements is empty.
 nothing : {X : Type 0} (l : List X) → ((x : X) → In x l → ⊥) → l ≡ []
 nothing [] n = refl
@@ -235,7 +230,7 @@ module _ {Shape State Op Undo : Type 0} (o : Object Shape State Op Undo) (place 
                 same_shape = ap (λ (l : Shape × List (SharedEntry Op)). l.0) shared ∙ sym shape;
                 ranged = λ a i.
                     let m = from_map (as_shared t true) a items (subst (λ (l : List (SharedEntry Op)). In a l) shared_are i) in
-                    subst (λ (e : SharedEntry Op). IsTrue (o.ranged e.op)) (sym m.2) (all_in (IsItemAsked o v.shape) items m.0 asked m.1).1;
+                    subst (λ (e : SharedEntry Op). IsTrue (o.ranged e.op)) (sym m.2) (of_each (IsItemAsked o v.shape) items m.0 asked m.1).1;
                 few =
                     let e : length w.shared.1 ≡ length items = ap (λ (l : List (SharedEntry Op)). length l) shared_are ∙ length-map items (as_shared t true) in
                     omega (arith, e, few);

@@ -7,7 +7,7 @@ use Rattle.std.proofs.lemmas.List.{length-map, length-take-le, take-append-drop}
 use mathlib.Core.Logic.{inl, inr}
 use Rattle.pp_core.specs.declared.call.Style.TheVariants as styles
 use Rattle.pp_core.specs.declared.entry.Item.{Item}
-use Rattle.pp_model.specs.Config.{App, Cmt, Config, LocalEntry, Mark, Note, Pull, Pulled, Push, Pushed, Quit, SharedEntry, Step, Tx, Unpushed, as_shared, is_mark, is_own, item, own_items, shared_item, tx}
+use Rattle.pp_model.specs.Config.{App, Cmt, Config, LocalEntry, Mark, Note, Pull, Pulled, Push, Pushed, Quit, SharedEntry, Tx, Unpushed, as_shared, is_mark, is_own, item, own_items, shared_item, tx}
 use Rattle.pp_model.specs.Lists.{Before, In}
 use Rattle.pp_model.specs.Names.{Name}
 use Rattle.pp_model.specs.Object.{HasDistinctIds}
@@ -21,21 +21,21 @@ use Rattle.pp_kind.specs.Object.{Object, rules_of}
 use Rattle.pp_records.specs.Expansions.{expand, refresh, stands_in, steps_of_open, taken_at, taken_out}
 use Rattle.pp_records.specs.Fronts.{Front}
 use Rattle.pp_records.specs.Records as records
-use Rattle.pp_summary.specs.Boosted.{Boosted, Follows, IsOwnAt, PlacesSwap}
+use Rattle.pp_summary.specs.Boosted.{Boosted, Follows, PlacesSwap}
 use Rattle.pp_summary.specs.Brief.{Brief, BriefTx, any_at, brief_of, brief_tx, is_missed, missed, shared_ids}
 use Rattle.pp_summary.specs.Held.{HasSteps, IsHeldOf}
 use Rattle.pp_summary.specs.Seen.{HaveOwnPlaces, seen_total}
-use Rattle.pp_summary.specs.Shown.{IsFine, KeepsQuick, Kept, as_held, at, count_behind, ids_at, ids_behind, is_unseen, items_at, open_in, shown_tx, unseen, unseen_at}
+use Rattle.pp_summary.specs.Shown.{KeepsQuick, Kept, as_held, at, count_behind, ids_at, ids_behind, is_unseen, items_at, open_in, shown_tx, unseen_at}
 use Rattle.pp_summary.specs.declared.parts.OpenTx.{OpenTx}
-use Rattle.pp_summary.proofs.Briefs.{brief_of_is, differ, has_in, in_has, to_any_at, to_brief}
-use Rattle.pp_summary.proofs.Entries.{entry_in, is_there}
+use Rattle.pp_summary.proofs.Briefs.{brief_of_is, differ, to_any_at, to_brief}
 use Rattle.pp_summary.proofs.Fresh.{done_few}
 use Rattle.pp_summary.proofs.HeldOf.{done_stands, own_stands, there}
 use Rattle.pp_summary.proofs.Judging.{own_ids}
-use Rattle.pp_summary.proofs.Lookups.{and_true}
 use Rattle.pp_summary.proofs.Moving.{committed_there, fine_of, open_is, open_there}
 use Rattle.pp_summary.proofs.Places.{Distinct, count_ids, count_looked_up, count_there, filter_parts, filter_twice, length_parts, total_is, total_within}
-use Rattle.pp_summary.proofs.Relog.{filter_same, same_bool}
+use Rattle.pp_laws_summary.proofs.Entries.{has_in, in_has, entry_in, is_there}
+use Rattle.pp_laws_summary.proofs.Lookups.{and_true}
+use Rattle.pp_laws_summary.proofs.Relog.{filter_same, same_bool}
 
 -- An id is among those of the entries that pass a test exactly if its entry passes.
 has_filtered : {Op : Type 0} (test : SharedEntry Op → Bool) (G : List (SharedEntry Op)) → ((a b : SharedEntry Op) → Before a b G → a.id ≡ b.id → ⊥) → (g : SharedEntry Op) → In g G →

@@ -1,8 +1,8 @@
 -- Which commits an open transaction has not seen, after each record.
-use Rattle.std.specs.Prelude.{◌≡◌, ◌≢◌, ◌⊎◌, ◌==◌, ◌≤◌, ℕ, zero, suc, nat_eq, Bool, true, false, cond, not, ◌&&◌, ◌||◌, List, [], ◌∷◌, ◌++◌, filter, drop, length, is_some, Option, None, Some}
+use Rattle.std.specs.Prelude.{◌≡◌, ◌≢◌, ◌⊎◌, ◌==◌, ◌≤◌, ℕ, nat_eq, Bool, true, false, cond, not, ◌&&◌, ◌||◌, List, [], ◌∷◌, ◌++◌, filter, drop, length, is_some, Option, None, Some}
 use Rattle.std.specs.Map.{lookup}
 use Rattle.std.proofs.Common.{refl, sym, ap, subst, ◌∙◌, arith}
-use Rattle.std.proofs.lemmas.List.{append-nil, drop_all}
+use Rattle.std.proofs.lemmas.List.{append-nil, drop_all, drop-append-le}
 use Rattle.std.proofs.lemmas.List.Elements.{filter-append}
 use Rattle.std.proofs.lemmas.Bool.{and_parts, eqb-true, eq-eqb, false_from_ne_true}
 use mathlib.Core.Logic.{inl, inr}
@@ -18,18 +18,12 @@ use Rattle.pp_model.proofs.Trace.{map_same}
 use Rattle.pp_model.proofs.Finding.{stands_in}
 use Rattle.pp_summary.specs.Brief.{is_met, shared_ids, any_at, without_owner}
 use Rattle.pp_summary.specs.Shown.{at, ids_at, ids_behind, is_unseen, items_at, unseen, unseen_at}
-use Rattle.pp_summary.proofs.Briefs.{differ, has_in, in_has}
+use Rattle.pp_summary.proofs.Briefs.{differ}
 use Rattle.pp_summary.proofs.Items.{in_drop}
 use Rattle.pp_summary.proofs.OnCommit.{commit_rest}
-use Rattle.pp_summary.proofs.Relog.{filter_map, filter_none, filter_same, filter_within, map_map, same_bool}
-
-and_false : (a : Bool) → (a && false) ≡ false
-and_false true = refl
-and_false false = refl
-
-or_none : (a : Bool) → (a || false) ≡ a
-or_none true = refl
-or_none false = refl
+use Rattle.pp_laws_summary.proofs.Entries.{has_in, in_has}
+use Rattle.pp_laws_summary.proofs.Relog.{filter_map, filter_none, filter_same, filter_within, map_map, same_bool}
+use Rattle.std.proofs.Math.Bool.{and-false, or-false}
 
 module _ {Op : Type 0} (place : Op → ℕ) where
   -- The id of an entry is among the unseen ids exactly if the entry is unseen.
@@ -44,7 +38,7 @@ module _ {Op : Type 0} (place : Op → ℕ) where
 
   -- A transaction without own operations has no unseen commits.
   pub unseen_none : (G : List (SharedEntry Op)) (commits : List (List ℕ)) → unseen place G commits [] ≡ []
-  unseen_none G commits = ap (λ (w : List (SharedEntry Op)). shared_ids w) (filter_none (is_unseen place commits []) G (λ g i. and_false g.committed))
+  unseen_none G commits = ap (λ (w : List (SharedEntry Op)). shared_ids w) (filter_none (is_unseen place commits []) G (λ g i. and-false g.committed))
 
   -- An uncommitted entry at the end of the shared log is not unseen.
   pub unseen_wider : (G : List (SharedEntry Op)) (commits : List (List ℕ)) (seen : List (ℕ × ℕ)) (t : Name) (p : Item Op) → unseen place (G ++ as_shared t false p ∷ []) commits seen ≡ unseen place G commits seen
@@ -74,8 +68,8 @@ module _ {Op : Type 0} (place : Op → ℕ) where
           ∙ ap (λ (n : ℕ). Some (length (at n commits))) (sym q) in
           let nothing : unseen_at (place g.op) commits new ≡ [] =
           ap (λ m. ids_behind m (at (place g.op) commits)) looked ∙ drop_all (length (at (place g.op) commits)) (at (place g.op) commits) (omega arith) in
-          ap (λ l. g.committed && has_id g.id l) nothing ∙ and_false g.committed
-          ∙ sym (ap (λ (b : Bool). is_unseen place commits old g && not b) e ∙ and_false (is_unseen place commits old g))
+          ap (λ l. g.committed && has_id g.id l) nothing ∙ and-false g.committed
+          ∙ sym (ap (λ (b : Bool). is_unseen place commits old g && not b) e ∙ and-false (is_unseen place commits old g))
       by g false e =
           let other : (place op == place g.op) ≡ false = false_from_ne_true (place op == place g.op) (λ z. differ (place g.op == place op) (eq-eqb (place g.op) (place op) (sym (eqb-true (place op) (place g.op) z))) e) in
           let looked : lookup (nat_eq (place g.op)) new ≡ lookup (nat_eq (place g.op)) old =
@@ -86,12 +80,6 @@ module _ {Op : Type 0} (place : Op → ℕ) where
           and_true_right : (a : Bool) → (a && true) ≡ a
           and_true_right true = refl
           and_true_right false = refl
-
-  -- Elements at the end of a list are also at the end of the list without its first k elements.
-  drop_more : {A : Type 0} (k : ℕ) (l m : List A) → k ≤ length l → drop k (l ++ m) ≡ drop k l ++ m
-  drop_more zero l m h = refl
-  drop_more (suc k) [] m h = absurd (omega arith)
-  drop_more (suc k) (x ∷ l) m h = drop_more k l m (omega arith)
 
   has_more : (i : ℕ) (l m : List ℕ) → has_id i (l ++ m) ≡ (has_id i l || has_id i m)
   has_more i [] m = refl
@@ -119,7 +107,7 @@ module _ {Op : Type 0} (place : Op → ℕ) where
     behind_more q None e i = refl
     behind_more q (Some k) e i =
         ap (λ l. has_id i (drop k l)) (grows q)
-        ∙ ap (λ l. has_id i l) (drop_more k (at q commits) (ids_at place q mine) (within q k e))
+        ∙ ap (λ l. has_id i l) (drop-append-le k (at q commits) (ids_at place q mine) (within q k e))
         ∙ has_more i (drop k (at q commits)) (ids_at place q mine)
 
     -- The ids of the operations of t are those of its entries, and of no others.
@@ -176,9 +164,9 @@ module _ {Op : Type 0} (place : Op → ℕ) where
             ∙ sym (ap (λ (b : Bool). (b && old) || ((g.owner =ⁿ t) && any_there)) u ∙ ap (λ (b : Bool). b && any_there) r.0)
         by z u (inr r) =
             ap (λ (b : Bool). (cond b (as_committed g) g).committed && (old || (any_there && b))) r.0
-            ∙ ap (λ (b : Bool). g.committed && (old || b)) (and_false any_there)
-            ∙ ap (λ (b : Bool). g.committed && b) (or_none old)
-            ∙ sym (ap (λ (b : Bool). (g.committed && old) || (b && any_there)) r.0 ∙ or_none (g.committed && old))
+            ∙ ap (λ (b : Bool). g.committed && (old || b)) (and-false any_there)
+            ∙ ap (λ (b : Bool). g.committed && b) (or-false old)
+            ∙ sym (ap (λ (b : Bool). (g.committed && old) || (b && any_there)) r.0 ∙ or-false (g.committed && old))
 
     -- After a commit, a transaction has not seen the committed entries that it met either.
     pub unseen_committed : unseen place (commit_all t G) later seen ≡ shared_ids (filter (λ g. has_id g.id (unseen place G commits seen) || is_met place t own g) G)
