@@ -24,13 +24,13 @@ use Rattle.pp_summary.specs.Boosted.{PlacesSwap}
 use Rattle.pp_summary.specs.Held.{IsHeldOf}
 use Rattle.pp_summary.specs.Shown.{KeepsQuick, Kept, as_held, items_at, open_in, shown_tx}
 use Rattle.pp_summary.specs.declared.parts.OpenTx.{OpenTx}
-use Rattle.pp_summary.proofs.Briefs.{in_has}
 use Rattle.pp_summary.proofs.HeldOf.{done_stands, own_stands}
 use Rattle.pp_summary.proofs.Judging.{own_ids}
 use Rattle.pp_summary.proofs.Moving.{open_there}
 use Rattle.pp_summary.proofs.StepCounts.{opened, same_own}
 use Rattle.pp_violations.specs.Searches.{view_items}
 use Rattle.pp_violations.specs.Summarised.{kept_open, kept_summary, seen_of}
+use Rattle.pp_laws_summary.proofs.Entries.{in_has}
 
 module _ {Shape State Op Undo : Type 0} (o : Object Shape State Op Undo) (place : Op → ℕ) (apart : (shape : Shape) → PlacesSwap (rules_of o shape) place) (v : Kept Shape Op) (h : KeepsQuick o place v) (t : Name) (it : OpenTx (List (Item Op)))
     (found : open_in t v.slots.entries ≡ Some it) (q : ℕ) where

@@ -23,7 +23,7 @@ use Rattle.pp_summary.specs.Brief.{Brief, BriefTx, brief_tx}
 use Rattle.pp_summary.specs.Held.{IsHeldOf}
 use Rattle.pp_summary.specs.Shown.{KeepsQuick, Kept, as_held, at, filled, in_slot, open_in, shown_tx}
 use Rattle.pp_summary.specs.declared.parts.OpenTx.{OpenTx}
-use Rattle.pp_summary.proofs.Filled.{Apart}
+use Rattle.pp_summary.proofs.Filled.{Apart, in_keys}
 use Rattle.pp_summary.proofs.StepCounts.{opened, pulled_none, pulled_some}
 use Rattle.pp_violations.specs.Summarised.{kept_open, kept_summary, no_section, number_or_zero, own_entry, seen_of}
 
@@ -44,11 +44,6 @@ own_entries {Op} t (e ∷ l) p = by (is_own e.mark) refl (own_entries t l (λ a 
 -- The slots of a Quick.
 abbrev pub Slots : Type 0 → Type 0
 Slots Op = List (Name × Option (OpenTx (List (Item Op))))
-
-in_keys : {X : Type 0} (es : List (Name × X)) (e : Name × X) → In e es → In e.0 (keys_of es)
-in_keys [] e h = absurd h
-in_keys {X} (d ∷ es) e (inl h) = inl (ap (λ (w : Name × X). w.0) h)
-in_keys (d ∷ es) e (inr h) = inr (in_keys es e h)
 
 module _ {Op : Type 0} (t : Name) where
   none_open : (es : Slots Op) → ((n : Name) (x : OpenTx (List (Item Op))) → In (n, Some x) es → n ≢ t) → open_named t (filled kept_open es) ≡ None

@@ -23,8 +23,8 @@ use Rattle.pp_laws_summary.proofs.Relog.{filter_map}
 use Rattle.pp_laws_summary.proofs.Snapshots.{done_serial}
 use Rattle.pp_laws_summary.proofs.Turning.{allowed_join}
 use Rattle.pp_summary.specs.Boosted.{Boosted, Follows, PlacesSwap}
-use Rattle.pp_summary.proofs.Entries.{entry_in, is_there, ops_items, ops_local}
 use Rattle.pp_summary.proofs.Front.{is_item, same, stands, turn}
+use Rattle.pp_laws_summary.proofs.Entries.{entry_in, is_there, ops_items, ops_local}
 
 module _ {Op State : Type 0} (O : Object Op State) (place : Op → ℕ) (part : PlacesPart O place) (tells : TellsStates O) (c : Config Op) (b : Boosted O place c) (x : Tx Op) (ix : In x c.opened) (q : ℕ) where
   apart : PlacesSwap O place

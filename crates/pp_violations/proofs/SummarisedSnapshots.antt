@@ -27,12 +27,12 @@ use Rattle.pp_summary.specs.Brief.{BriefTx, any_at, brief_tx, is_missed, shared_
 use Rattle.pp_summary.specs.Held.{IsHeldOf}
 use Rattle.pp_summary.specs.Shown.{KeepsQuick, Kept, as_held, at, filled, ids_behind, is_unseen, shown_tx, unseen, unseen_at}
 use Rattle.pp_summary.specs.declared.parts.OpenTx.{OpenTx}
-use Rattle.pp_summary.proofs.Briefs.{differ, has_in, in_has}
-use Rattle.pp_summary.proofs.Entries.{entry_in, is_there}
-use Rattle.pp_summary.proofs.Relog.{same_bool}
+use Rattle.pp_summary.proofs.Briefs.{differ}
 use Rattle.pp_violations.specs.Summarised.{no_section, number_or_zero}
 use Rattle.pp_violations.proofs.Summarised.{Slots, seen_is}
 use Rattle.pp_violations.proofs.SummarisedLogs.{log_leads}
+use Rattle.pp_laws_summary.proofs.Entries.{has_in, in_has, entry_in, is_there}
+use Rattle.pp_laws_summary.proofs.Relog.{same_bool}
 
 -- An id is among those of the entries that pass a test exactly if its entry passes.
 has_filtered : {Op : Type 0} (test : SharedEntry Op → Bool) (G : List (SharedEntry Op)) → ((a b : SharedEntry Op) → Before a b G → a.id ≢ b.id) → (g : SharedEntry Op) → In g G →
