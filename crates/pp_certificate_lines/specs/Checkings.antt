@@ -21,12 +21,12 @@ use Rattle.pp_certificate_lines.specs.Reading.{reader, reader_of}
 use Rattle.pp_certificate_lines.specs.declared.checking.Checking.{Checking}
 use Rattle.pp_certificate_lines.specs.declared.checking.Checking.TheVariants.{Before, Within}
 
--- what was read so far
+-- What was read so far.
 abbrev pub read_in : Checking → ReadSoFar (List Kind) Op
 read_in (Before checker) = checker
 read_in (Within catalog checker) = checker
 
--- what a line says in its place
+-- What a line says at its place.
 abbrev pub line_in : Checking → List ℕ → Line (List Kind) Op
 line_in (Before checker) line = if blank line then Blank else first_line line
 line_in (Within catalog checker) line = if blank line then Blank else later_line catalog line
@@ -54,7 +54,7 @@ pub record CoversBlank (lines : List (List ℕ)) (now : ReadSoFar (List Kind) Op
   pub fresh : now.stage ≡ Fresh
   pub count : now.lines ≡ length lines
 
--- These lines name these objects, whatever lines come behind them, and lead to here.
+-- These lines name these objects and lead to here, whatever lines come after them.
 pub record CoversNamed (lines : List (List ℕ)) (catalog : Objects)
     (now : ReadSoFar (List Kind) Op) : Type 0 where
   pub named : (more : List (List ℕ)) → objects_in (lines ++ more) ≡ catalog
@@ -67,8 +67,8 @@ abbrev pub Covers : List (List ℕ) → Checking → Type 0
 Covers lines (Before checker) = CoversBlank lines checker
 Covers lines (Within catalog checker) = CoversNamed lines catalog checker
 
--- Behind these lines a line is taken, or it is the first that is refused, whatever lines come
--- behind it.
+-- After these lines the line is taken, or it is the first that is refused, whatever lines come
+-- after it.
 abbrev pub LeadsOn : List (List ℕ) → List ℕ → Result Checking Refusal → Type 0
 LeadsOn lines line (Ok next) = Covers (lines ++ line ∷ []) next
 LeadsOn lines line (Err why) = (more : List (List ℕ)) →
@@ -80,8 +80,8 @@ abbrev pub IsShownOf : Objects → Shown (List Kind) (List ObjectState) Op → T
 IsShownOf catalog h =
     EachNamed catalog h.serial × AreStatesOf catalog h.state
 
--- What lines show that are all taken, with their objects. If there is no serial number they end
--- too early.
+-- What these lines show, with their objects, if all of them are taken. Without a serial number
+-- they end too early.
 abbrev pub Closes : List (List ℕ)
     → Option (Objects × Shown (List Kind) (List ObjectState) Op) → Type 0
 Closes lines None =

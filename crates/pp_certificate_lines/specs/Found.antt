@@ -1,4 +1,4 @@
--- Meaning: what was read, if there was no fault.
+-- Meaning: the value that was read, or nothing if there was a fault.
 use Rattle.std.specs.Prelude.{◌≡◌, Option, Some, None, Result, Ok, Err}
 use Rattle.pp_core.specs.declared.answer.OutOfMemory.{OutOfMemory}
 use Rattle.pp_format_read.specs.declared.fault.RecordFault.{RecordFault}

@@ -15,22 +15,22 @@ use Rattle.pp_certificate_checker.specs.Laws.{Spells, certificate_of, shown_of}
 use Rattle.pp_certificate_lines.specs.Lines.{line_bytes}
 use Rattle.pp_certificate_lines.specs.Reading.{reader, reader_of}
 
--- the entry can be stated: its id is one of a record, and its numbers lie in the range of records
+-- The entry can be stated: its id is one of a record, and its numbers are in the range of records.
 abbrev pub can_state : Item Op → Bool
 can_state p = nat_le p.id 999_999_999 && objects.ranged p.op
 
--- Each line of a certificate over objects that can be stated is read again in its place.
+-- Each line of a certificate over objects that can be stated is read back at its place.
 abbrev pub SpellsLaw : Type 0
 SpellsLaw =
     (catalog : Objects) → IsCatalog catalog
     → Spells objects (kinds_of catalog) can_state (reader catalog) (line_bytes catalog)
 
--- the lines of the certificate of a configuration of these objects, without line ends
+-- The lines of the certificate of a configuration of these objects, without line ends.
 abbrev pub lines_of : Objects → Config Op → List (List ℕ)
 lines_of catalog c = certificate_of (line_bytes catalog) (kinds_of catalog) c
 
--- These lines, of a sound configuration whose entries can be stated, are accepted, and show its
--- committed operations in commit order. Nothing but the lines tells which objects there are.
+-- The lines for a sound configuration whose entries can be stated are accepted. They show its
+-- committed operations in commit order. Only the lines say which objects there are.
 abbrev pub AcceptedLaw : Type 0
 AcceptedLaw =
     (catalog : Objects) (c : Config Op) → IsCatalog catalog

@@ -45,7 +45,7 @@ row_bytes is = compact_text (row_value is)
 abbrev pub serial_bytes : ℕ → List ℕ
 serial_bytes n = compact_text (serial_value n)
 
--- the line of what a line says over these objects (nothing is written of a line of no form)
+-- The line of what a line says over these objects. There is no line for what has no form.
 abbrev pub line_bytes : Objects → Line (List Kind) Op → List ℕ
 line_bytes catalog Blank = []
 line_bytes catalog (Head kinds) = head_bytes catalog

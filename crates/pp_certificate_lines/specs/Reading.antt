@@ -1,5 +1,5 @@
--- Meaning: what a line of a certificate says in its place. A line of which any part has no reading
--- is of no form.
+-- Meaning: what a line of a certificate says at its place. A line with a part that cannot be read
+-- has no form.
 use Rattle.std.specs.Prelude.{ℕ, ◌==◌, ◌&&◌, nat_le, List, [], ◌∷◌, codes, if◌then◌else◌}
 use Rattle.std.specs.Prelude.{Option, Some, None, option_and_then, Result, Ok, Err}
 use Rattle.serde_json.specs.Data.{Data, Items, no_items, item}
@@ -60,8 +60,8 @@ abbrev pub line_of : {X : Type 0} → (X → Line (List Kind) Op) → Option X �
 line_of says None = Other
 line_of says (Some x) = says x
 
--- A line without a member `swaps`: with a member `serial` it is the serial number, and else an
--- entry.
+-- A line without a member `swaps`. With a member `serial` it is the serial number, and otherwise
+-- an entry.
 abbrev pub without_row : Objects → Data → Option Data → Line (List Kind) Op
 without_row catalog value None = line_of Entry (found (item_of catalog value))
 without_row catalog value (Some n) = line_of Serial (number_of n)
@@ -75,7 +75,7 @@ abbrev pub value_line : Objects → Option Data → Line (List Kind) Op
 value_line catalog None = Other
 value_line catalog (Some value) = with_row catalog value (get (codes "swaps") value)
 
--- a line behind the first one, over the objects that this one names
+-- A line after the first one, over the objects that the first one names.
 abbrev pub later_line : Objects → List ℕ → Line (List Kind) Op
 later_line catalog line = value_line catalog (found (object_of line))
 

@@ -1,4 +1,4 @@
--- Meaning: what `recheck` prints of an input.
+-- Meaning: what `recheck` prints for an input.
 use Rattle.std.specs.Prelude.{◌≡◌, ℕ, nat_lt, List, ◌++◌, length, map, codes, Option, None}
 use Rattle.std.specs.Prelude.{Some, if◌then◌else◌}
 use Rattle.std.specs.Fmt.{decimal}
@@ -27,21 +27,21 @@ use Rattle.pp_certificate_checker.specs.Own.{ShowsOwn}
 use Rattle.pp_text.specs.Lines.{line, op_line, state_lines}
 use Rattle.pp_certificate_lines.specs.Reading.{objects_in, reader_of}
 
--- the lines of an input before the one that passes a limit
+-- The lines of an input before the one that exceeds a limit.
 abbrev pub texts : List ℕ → List (List ℕ)
 texts bytes = map (λ numbered. numbered.1) (scanned_lines usual_limits bytes)
 
--- those of them that no further byte can change
+-- Those of them that no further byte can change.
 abbrev pub early_texts : List ℕ → List (List ℕ)
 early_texts bytes = map (λ numbered. numbered.1) (early_lines usual_limits bytes)
 
--- what an input is, as a certificate
+-- The result of checking an input as a certificate.
 pub data Checked : Type 0 where
-  -- this line is at fault
+  -- This line has a fault.
   Faulty : (at_line : ℕ) → (cause : Cause) → Checked
-  -- this line is refused
+  -- This line is refused.
   Refuses : (at_line : ℕ) → (why : Refusal) → Checked
-  -- it is one, and shows this
+  -- The input is a certificate, and this is what it shows.
   Shows : Shown (List Kind) (List ObjectState) Op → Checked
 
 -- A line that is not of the form of its place is at fault.
@@ -51,8 +51,9 @@ refused_at n (Gives id answer) = Refuses n (Gives id answer)
 refused_at n Position = Refuses n Position
 refused_at n (Pair first second) = Refuses n (Pair first second)
 
--- What an input is, by the limit that it passes and the verdict on so many lines before it. The
--- first line that is refused or at fault decides: the limit, if only the end is missing.
+-- The result of an input, from the limit that it exceeds and the verdict on the lines before that.
+-- The first line that is refused or has a fault decides. If only the end is missing, the limit
+-- decides.
 abbrev pub checked : Option (ℕ × Cause) → ℕ → Verdict (List Kind) (List ObjectState) Op → Checked
 checked None count (Holds h) = Shows h
 checked None count (Refused n why) = refused_at n why
@@ -60,14 +61,14 @@ checked (Some limit) count (Holds h) = Faulty limit.0 limit.1
 checked (Some limit) count (Refused n why) =
     if nat_lt count n then Faulty limit.0 limit.1 else refused_at n why
 
--- An input is this: by the verdict on its lines, and the limit that it passes.
+-- The result of this input, from the verdict on its lines and the limit that it exceeds.
 abbrev pub IsChecked : List ℕ → Checked → Type 0
 IsChecked bytes found =
     (v : Verdict (List Kind) (List ObjectState) Op)
     × IsVerdictOf objects (reader_of (texts bytes)) (texts bytes) v
     × (found ≡ checked (limit_fault (overrun usual_limits bytes)) (length (texts bytes)) v)
 
--- where a line is refused
+-- The part of a report that says which line is refused.
 abbrev pub refused_place : ℕ → List ℕ
 refused_place n = codes "refused line " ++ decimal n
 
@@ -81,7 +82,7 @@ refused_text n Position = line (refused_place n ++ codes " position")
 refused_text n (Pair first second) =
     line (refused_place n ++ codes " pair " ++ decimal first ++ codes " " ++ decimal second)
 
--- the first line of what a certificate shows: how many entries, exchanges and serial entries
+-- The first line for what a certificate shows: how many entries, exchanges and serial entries.
 abbrev pub holds_line : ℕ → ℕ → ℕ → List ℕ
 holds_line operations swaps serial =
     line (codes "holds operations " ++ decimal operations ++ codes " swaps " ++ decimal swaps
@@ -93,7 +94,7 @@ holds_text catalog h =
     holds_line h.operations h.swaps (length h.serial) ++ flat_map (op_line catalog) h.serial
     ++ state_lines catalog h.state
 
--- the status and the text of what an input is
+-- The status and the text of a result.
 abbrev pub IsCheckedTold : Objects → Checked → Status → List ℕ → Type 0
 IsCheckedTold catalog (Faulty n cause) status text =
     (status ≡ statuses.InputFault) × (text ≡ fault_text n cause)
@@ -102,7 +103,7 @@ IsCheckedTold catalog (Refuses n why) status text =
 IsCheckedTold catalog (Shows h) status text =
     (status ≡ statuses.Accepted) × (text ≡ holds_text catalog h)
 
--- the status and the text that `recheck` gives an input
+-- The status and the text of `recheck` for an input.
 abbrev pub IsRecheck : List ℕ → Status → List ℕ → Type 0
 IsRecheck bytes status text =
     (found : Checked) × IsChecked bytes found
@@ -114,12 +115,12 @@ abbrev pub IsSoundOf : List ℕ → Shown (List Kind) (List ObjectState) Op → 
 IsSoundOf bytes h =
     ShowsAllowed objects h × ShowsOwn objects (reader_of (texts bytes)) (texts bytes) h
 
--- The input is a certificate that holds, and what it shows is sound.
+-- The input is an accepted certificate, and what it shows is sound.
 abbrev pub IsCheckedSound : List ℕ → Type 0
 IsCheckedSound bytes =
     (h : Shown (List Kind) (List ObjectState) Op) × IsChecked bytes (Shows h) × IsSoundOf bytes h
 
--- What was read passes no limit, and each line that no further byte can change is taken.
+-- What was read exceeds no limit, and each line that no further byte can change is taken.
 abbrev pub RecheckReadsNoFault : Option (List ℕ) → Option (List ℕ) → Type 0
 RecheckReadsNoFault old new =
     (bytes : List ℕ) × Consumes old new bytes × (overrun usual_limits bytes ≡ None)

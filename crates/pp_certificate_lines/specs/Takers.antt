@@ -1,4 +1,4 @@
--- Proof machinery: what reading the lines of an input as those of a certificate comes to.
+-- Proof machinery: reading the lines of an input as those of a certificate.
 use Rattle.std.specs.Prelude.{◌≤◌, ◌+◌, ℕ, List, length, map}
 use Rattle.pp_core.specs.declared.call.Kind.{Kind}
 use Rattle.pp_input.specs.Limits.{usual_limits}
@@ -14,29 +14,29 @@ use Rattle.pp_certificate_lines.specs.declared.checking.Checking.{Checking}
 use Rattle.pp_certificate_lines.specs.declared.taker.CheckFault.{CheckFault}
 use Rattle.pp_certificate_lines.specs.declared.taker.CheckFault.TheVariants as faults
 
--- lines without their numbers
+-- Lines without their numbers.
 abbrev pub bare : List NumberedLine → List (List ℕ)
 bare lines = map (λ numbered. numbered.1) lines
 
--- the first of these lines that is not taken
+-- The first of these lines that is refused.
 abbrev pub HasCheckFault : List (List ℕ) → ℕ → CheckFault → Type 0
 HasCheckFault lines at (faults.Cause cause) = ⊥
 HasCheckFault lines at (faults.Refusal why) =
     (at ≤ length lines) × IsVerdictOf objects (reader_of lines) lines (Refused at why)
 
--- how many entries a stage has
+-- How many entries a stage has.
 abbrev pub entries_at : Stage (List Kind) Op → ℕ
 entries_at Fresh = 0
 entries_at (Entered shape list) = length list
 entries_at (Exchanged shape list count) = length list
 entries_at (Ended shape list count n) = length list
 
--- how many entries were read
+-- How many entries were read.
 abbrev pub entries_in : Checking → ℕ
 entries_in checking = entries_at (read_in checking).stage
 
--- the usual limits; and where lines lead to, with what the counter then shows, which of them
--- is not taken, and what they cost, by what the counter shows before the first
+-- The usual limits, with three facts about lines: where they lead and what the counter then shows,
+-- which of them is refused, and what they cost from what the counter showed before the first.
 abbrev pub check_reading : ℕ → Reading (Checking × ℕ) CheckFault
 check_reading first = record {
   limits = usual_limits;

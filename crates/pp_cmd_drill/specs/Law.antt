@@ -42,7 +42,7 @@ states_at v x =
     ∷ states.KeySet empty
     ∷ []
 
--- what the committed transactions lead to, one after another
+-- The states after the committed transactions, one after another.
 abbrev pub states_left : ℕ → List ObjectState
 states_left n = state drill_objects (serial (attempts None (drill_steps n)))
 
@@ -58,7 +58,7 @@ pub record DrillFacts (n : ℕ) : Type 0 where
   pub runs : RunsFrom drill_objects (first None) (drill_steps n)
   pub accepted : IsVerdict drill_objects None (drill_steps n) Accepted
   pub steps : length (drill_steps n) ≡ count_of_steps n
-  -- all are committed, and they lead to this state
+  -- All transactions are committed, and they lead to this state.
   pub committed : length (attempts None (drill_steps n)) ≡ n
   pub leaves : states_left n ≡ states_at (pairs_in n) (sum_to n)
   pub shows : Shows (states_left n) (pairs_in n) (sum_to n)

@@ -26,7 +26,7 @@ abbrev pub drill_lines : ℕ → List ℕ
 drill_lines n =
     line (codes "drill " ++ decimal n) ++ accepted_line (count_of_steps n) n ++ drill_states n
 
--- what certifies the text of the run: that it is accepted, with all of its transactions
+-- The text that certifies the run: it is accepted, with all of its transactions.
 abbrev pub certified_text : ℕ → List ℕ
 certified_text n =
     accepted_text drill_catalog (count_of_steps n)

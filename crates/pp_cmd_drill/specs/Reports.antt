@@ -1,4 +1,4 @@
--- Meaning: what `drill N` prints of its run.
+-- Meaning: what `drill N` prints for its run.
 use Rattle.std.specs.Prelude.{◌≡◌, ℕ, List, ◌++◌, codes, length}
 use Rattle.std.specs.Fmt.{decimal}
 use Rattle.pp_core.specs.declared.status.Status.{Status}
@@ -16,7 +16,7 @@ use Rattle.pp_judge.specs.Scans.{InputScan}
 use Rattle.pp_cmd_drill.specs.Drill.{drill_catalog}
 use Rattle.pp_cmd_drill.specs.Text.{drill_text}
 
--- what the run of n transactions is as an input
+-- The run of n transactions, as an input.
 abbrev pub drill_scan : ℕ → InputScan
 drill_scan n = scan (drill_text n)
 

@@ -25,17 +25,17 @@ drill_text n = run_text drill_catalog None (drill_steps n)
 
 -- What is read from the text of the run of n transactions.
 pub record IsReadBack (n : ℕ) : Type 0 where
-  -- it can be stated, and begins n transactions
+  -- The run can be stated, and begins n transactions.
   pub statable : IsStatableRun drill_catalog None (drill_steps n)
   pub begun : count_by is_begin (drill_steps n) ≡ n
-  -- it passes no limit
+  -- The text exceeds no limit.
   pub within : overrun usual_limits (drill_text n) ≡ None
   pub short : length (drill_text n) < 200_000_000
-  -- its lines are those that were written, and none of them is blank
+  -- The lines of the text are those that were written, and none of them is blank.
   pub lines : scanned_lines usual_limits (drill_text n)
       ≡ numbered_from 1 (run_lines drill_catalog None (drill_steps n))
   pub shown : Each (λ line. blank line ≡ false) (run_lines drill_catalog None (drill_steps n))
-  -- the first is read as the header, and those after it as the steps, in turn
+  -- The first line is read as the header, and those after it as the steps, one by one.
   pub header : header_of (header_bytes drill_catalog) ≡ Ok drill_header
   pub records : map (record_of drill_header) (map (step_bytes drill_catalog) (drill_steps n))
       ≡ map (λ step. Ok (Plain step)) (drill_steps n)

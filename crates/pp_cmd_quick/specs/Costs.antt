@@ -19,7 +19,7 @@ use Rattle.pp_judge.specs.Scans.{InputScan}
 abbrev pub first_brief : Header → Brief Op
 first_brief header = brief place_of (first (start_of header))
 
--- what the start of a header and these records cost at most, one after another
+-- The most that the start of a header and these records cost, one by one.
 abbrev pub tried_most : Header → List (RunRecord Op) → ℕ
 tried_most header tried =
     start_at_most (start_of header) + records_most place_of (first_brief header) tried
@@ -30,23 +30,23 @@ abbrev pub AreTriedBehind : Header → Records (RunRecord Op) → List (RunRecor
 AreTriedBehind header records tried =
     AreTried (object_of header) place_of (first_brief header) (bare records) tried
 
--- P is true of what the start and the records that are tried cost at most. There is one list of
--- them. Without a header nothing costs.
+-- P is true of the most that the start and the tried records cost. There is exactly one list of
+-- tried records. Without a header the cost is 0.
 abbrev pub OfTried : Option (Lined Header) → Records (RunRecord Op) → (ℕ → Type 0) → Type 0
 OfTried None records P = P 0
 OfTried (Some header) records P = (tried : List (RunRecord Op)) →
     AreTriedBehind header.what records tried → P (tried_most header.what tried)
 
--- the counter rises at most by this, without the serial run
+-- The counter rises at most by this, without the serial run.
 abbrev pub RecordsCostAtMost : InputScan → (old new : ℕ) → Type 0
 RecordsCostAtMost sc old new = OfTried sc.header sc.records λ most. new ≤ old + most
 
--- and with it
+-- The counter rises at most by this, with the serial run.
 abbrev pub QuickCostsAtMost : InputScan → (old new : ℕ) → Type 0
 QuickCostsAtMost sc old new = OfTried sc.header sc.records λ most.
     OfRun sc.header sc.records λ start steps. new ≤ old + most + serial_length start steps
 
--- P is true of the records before the one that fails. There is one list of them at most, and none
+-- P is true of the records before the one that fails. There is at most one list of them, and none
 -- if the start fails.
 abbrev pub OfTaken : Option (Lined Header) → Records (RunRecord Op) →
     (List (RunRecord Op) → Type 0) → Type 0
@@ -55,7 +55,7 @@ OfTaken (Some header) records P = (r : Lined (RunRecord Op)) →
     (f : FailsIn (object_of header.what) (translation_of header.what) (start_of header.what)
     records r) → P (bare f.before)
 
--- the counter rises at least by one for each operation before the record that fails
+-- The counter rises by at least one for each operation before the record that fails.
 abbrev pub TakenCostAtLeast : InputScan → (old new : ℕ) → Type 0
 TakenCostAtLeast sc old new = OfTaken sc.header sc.records λ taken. old + count_ops taken ≤ new
 

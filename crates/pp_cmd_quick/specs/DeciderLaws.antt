@@ -49,14 +49,14 @@ module _ (is_taken : Style → Bool) (cause : Cause) where
   abbrev pub fault_of : InputScan → Option (ℕ × Cause)
   fault_of sc = style_fault is_taken cause sc.header sc.fault
 
-  -- in a style that is taken it is that of the scan
+  -- In a style that is taken, the fault is that of the scan.
   pub taken_fault : (sc : InputScan) (h : Lined Header) → sc.header ≡ Some h →
       is_taken h.what.style ≡ true → fault_of sc ≡ sc.fault
   taken_fault sc h there is =
       ap (λ (o : Option (Lined Header)). style_fault is_taken cause o sc.fault) there
       ∙ ap (λ (b : Bool). cond b sc.fault (Some (h.line, cause))) is
 
-  -- it stays, whatever comes after
+  -- The fault of a style stays, whatever comes after.
   pub style_fault_stays : (sc wider : InputScan) (x : ℕ × Cause) → Widens sc wider →
       fault_of sc ≡ Some x → fault_of wider ≡ Some x
   style_fault_stays sc wider x w is = by sc.header refl is
@@ -74,7 +74,7 @@ module _ (is_taken : Style → Bool) (cause : Cause) where
           (w.header h there)
           ∙ styled (is_taken h.what.style) h k
 
--- of a boosted run it is that of the scan
+-- The fault of a boosted run is that of the scan.
 pub boosted_fault : (sc : InputScan) (h : Lined Header) → sc.header ≡ Some h →
     h.what.style ≡ styles.Boosted → quick_fault sc ≡ sc.fault
 boosted_fault sc h there is =
@@ -180,7 +180,7 @@ fails_stay header rs more line (inr k) =
 
 -- ---- records that are good
 
--- the start and each of their steps hold
+-- The start and each step of the records meet their criteria.
 pub all_hold : (h : Header) (rs : Records (RunRecord Op)) (quick : Held (List Kind) Op) →
     AreGoodBehind h rs quick → AllHold h rs
 all_hold h rs quick c = (
@@ -193,7 +193,7 @@ all_hold h rs quick c = (
       c.read.hold),
 )
 
--- then no record fails
+-- If all steps meet their criteria, no record fails.
 pub none_fails : (header : Lined Header) (rs : Records (RunRecord Op)) (line : ℕ) →
     AllHold header.what rs → FailsOn header rs line → ⊥
 none_fails header rs line all (inl k) = k.0 all.0

@@ -1,4 +1,4 @@
--- Meaning: what `quick` decides of an input, and what it prints of that.
+-- Meaning: what `quick` decides about an input, and what it prints.
 use Rattle.std.specs.Prelude.{◌≡◌, ◌⊎◌, ℕ, Bool, true, false, List, length, map, if◌then◌else◌}
 use Rattle.std.specs.Prelude.{Option, None, Some}
 use Rattle.std.specs.Io.KnownBytes.{Consumes}
@@ -34,47 +34,47 @@ is_boosted styles.Optimistic = false
 is_boosted styles.Hardware = false
 is_boosted styles.Dependent = false
 
--- if a header is of a style that is not taken, this cause is the fault of its line
+-- If a header is of a style that is not taken, this cause is the fault of its line.
 abbrev pub style_fault : (Style → Bool) → Cause → Option (Lined Header) → Option (ℕ × Cause) →
     Option (ℕ × Cause)
 style_fault is_taken cause None fault = fault
 style_fault is_taken cause (Some header) fault =
     if is_taken header.what.style then fault else Some (header.line, cause)
 
--- The fault of an input: that its header is of another style, or the fault of its scan. There is no
--- limit on steps. Of the early scan it is the early fault.
+-- The fault of an input: its header is of another style, or the fault of its scan. There is no
+-- limit on steps. For the early scan it is the early fault.
 abbrev pub quick_fault : InputScan → Option (ℕ × Cause)
 quick_fault sc = style_fault is_boosted NotBoosted sc.header sc.fault
 
--- what was read has no fault that no further byte can change
+-- What was read has no fault that no further byte can change.
 abbrev pub QuickReadsNoFault : Option (List ℕ) → Option (List ℕ) → Type 0
 QuickReadsNoFault old new =
     (bytes : List ℕ) × Consumes old new bytes × (quick_fault (early_scan bytes) ≡ None)
 
 -- ---- the decision
 
--- What is decided: the fault; how many records there are, what they commit, and the state that
--- this leads to; or the line of the start or of the record that fails.
+-- A decision: the fault; or the number of records, what they commit and the state that this leads
+-- to; or the line of the start or the record that fails.
 pub data Decision : Type 0 where
   Faulty : (line : ℕ) (cause : Cause) → Decision
   Accepts : (records : ℕ) (committed : List (Attempt Op)) (final : List ObjectState) → Decision
   Rejects : (line : ℕ) → Decision
 
--- all steps of the records after a header, however many they are
+-- All steps of the records after a header, however many there are.
 abbrev pub steps_behind : Header → Records (RunRecord Op) → LinedSteps Op
 steps_behind header rs = all_steps (translation_of header) (start_of header) rs
 
--- the verdict of all steps of the records
+-- The verdict of all steps of the records.
 abbrev pub IsVerdictBehind : Header → Records (RunRecord Op) → Verdict → Type 0
 IsVerdictBehind header rs v =
     IsVerdict (object_of header) (start_of header) (bare (steps_behind header rs)) v
 
--- the start and each step hold
+-- The start and each step meet their criteria.
 abbrev pub AllHold : Header → Records (RunRecord Op) → Type 0
 AllHold header rs = StartMeets (object_of header) (start_of header)
     × RunsFrom (object_of header) (first (start_of header)) (bare (steps_behind header rs))
 
--- On this line the start fails, whose header is there, or the record whose step is the first
+-- The start fails, and its header is on this line; or the record on this line has the first step
 -- that fails.
 abbrev pub FailsOn : Lined Header → Records (RunRecord Op) → ℕ → Type 0
 FailsOn header rs line =
@@ -83,13 +83,13 @@ FailsOn header rs line =
     × FailsIn (object_of header.what) (translation_of header.what) (start_of header.what) rs r
     × (line ≡ r.line))
 
--- that all steps hold, by what they commit, the start with it
+-- The decision that all steps meet their criteria, with what they and the start commit.
 abbrev pub acceptance : Header → Records (RunRecord Op) → Decision
 acceptance header rs =
     let committed = attempts (start_of header) (bare (steps_behind header rs)) in
     Accepts (length rs) committed (state (object_of header) (serial committed))
 
--- the decision of the records after a header, without a fault
+-- The decision about the records after a header, without a fault.
 abbrev pub IsDecisionOf : Lined Header → Records (RunRecord Op) → Decision → Type 0
 IsDecisionOf header rs decision =
     (AllHold header.what rs × (decision ≡ acceptance header.what rs))
@@ -100,13 +100,13 @@ IsDecisionBehind (Some fault) sc decision = decision ≡ Faulty fault.0 fault.1
 IsDecisionBehind None sc decision = (header : Lined Header) × (sc.header ≡ Some header)
     × IsDecisionOf header sc.records decision
 
--- the decision of an input: its fault, if it has one, and else that of its records
+-- The decision about an input: its fault, if it has one, and otherwise that of its records.
 abbrev pub IsDecision : InputScan → Decision → Type 0
 IsDecision sc decision = IsDecisionBehind (quick_fault sc) sc decision
 
 -- ---- what is printed
 
--- the status and the text of a decision
+-- The status and the text of a decision.
 abbrev pub IsDecisionTold : Option (Lined Header) → Decision → Status → List ℕ → Type 0
 IsDecisionTold header (Faulty line cause) status text =
     (status ≡ statuses.InputFault) × (text ≡ fault_text line cause)
@@ -116,7 +116,7 @@ IsDecisionTold header (Accepts records committed final) status text =
 IsDecisionTold header (Rejects line) status text =
     (status ≡ statuses.Rejected) × (text ≡ quick_rejected_text line)
 
--- the status and the text of what is decided of an input
+-- The status and the text of the decision about an input.
 abbrev pub IsQuick : List ℕ → Status → List ℕ → Type 0
 IsQuick bytes status text = (decision : Decision) × IsDecision (scan bytes) decision
     × IsDecisionTold (scan bytes).header decision status text

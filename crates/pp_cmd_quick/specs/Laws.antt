@@ -25,8 +25,8 @@ TellsVerdict header rs (Rejected zero criterion) decision = decision ≡ Rejects
 TellsVerdict header rs (Rejected (suc i) criterion) decision = (step : Lined (Step Op))
     × (slice_get (steps_behind header.what rs) i ≡ Some step) × (decision ≡ Rejects step.line)
 
--- the decision is that of this report of `certify`: the same fault on the same line, but that
--- nothing is said if it is TooManySteps, or the same serial run, or a rejection on the same line
+-- The decision agrees with this report of `certify`: the same fault on the same line, the same
+-- serial run, or a rejection on the same line. Nothing is said if the report is TooManySteps.
 abbrev pub IsSameDecision : RunReport → Decision → Type 0
 IsSameDecision (reports.Faulty line cause) decision =
     cause ≢ TooManySteps → decision ≡ Faulty line cause
@@ -37,7 +37,7 @@ IsSameDecision (reports.StepRejected number line criterion before step) decision
     decision ≡ Rejects line
 
 pub record DecisionLaw : Type 0 where
-  -- an input has one status and one text at most
+  -- An input has at most one status and one text.
   pub one : (bytes : List ℕ) (s s' : Status) (t t' : List ℕ) → IsQuick bytes s t →
       IsQuick bytes s' t' → (s ≡ s') × (t ≡ t')
   -- Records after a header cannot be without a decision and a verdict on all their steps. (Which
@@ -45,11 +45,11 @@ pub record DecisionLaw : Type 0 where
   pub some : (header : Lined Header) (rs : Records (RunRecord Op)) →
       ((decision : Decision) (v : Verdict) → IsDecisionOf header rs decision →
       IsVerdictBehind header.what rs v → ⊥) → ⊥
-  -- The decision reports this verdict, of which there is one at most. There is no limit on steps.
+  -- The decision reports this verdict, of which there is at most one. There is no limit on steps.
   pub verdict : (header : Lined Header) (rs : Records (RunRecord Op)) (decision : Decision)
       (v : Verdict) → IsDecisionOf header rs decision → IsVerdictBehind header.what rs v →
       TellsVerdict header rs v decision
-  -- an input of style boosted is decided as `certify` reports it
+  -- The decision about an input of style boosted agrees with the report of `certify`.
   pub agrees : (sc : InputScan) (header : Lined Header) (report : RunReport) (decision : Decision) →
       sc.header ≡ Some header → header.what.style ≡ Boosted →
       IsReport setting_of TooManySteps sc report → IsDecision sc decision →

@@ -1,4 +1,4 @@
--- Proof machinery: what the summary says of boosted runs as a judge.
+-- Proof machinery: what the summary as a judge decides about boosted runs.
 use Rattle.std.specs.Prelude.{◌≡◌, ℕ, ◌+◌, ◌≤◌, Bool, true, false, List}
 use Rattle.pp_core.specs.declared.call.Kind.{Kind}
 use Rattle.pp_core.specs.declared.call.Style.TheVariants.{Boosted}
@@ -22,7 +22,7 @@ use Rattle.pp_cmd_quick.specs.Decisions.{FailsOn, quick_fault}
 use Rattle.pp_cmd_quick.specs.declared.decider.Decider.{Decider}
 use Rattle.pp_cmd_quick.specs.declared.decider.RejectedLine.{RejectedLine}
 
--- the start and the records after a header are good, and this is the Quick that took them
+-- The start and the records after a header are good, and this is the Quick that took them.
 pub record AreGoodBehind (header : Header) (records : Records (RunRecord Op))
     (quick : Held (List Kind) Op) : Type 0 where
   pub style : header.style ≡ Boosted
@@ -44,7 +44,8 @@ quick_judging = record {
   RejectedAtLeast = TakenCostAtLeast;
 }
 
--- the same of a scan, with its counts
+-- The start and the records of a scan are good, and this is the Quick that took them, with its
+-- counts.
 pub record AreGood (sc : InputScan) (tally : Tally) (quick : Held (List Kind) Op) : Type 0 where
   pub follows : IsTallied sc tally
   pub good : AreGoodBehind tally.header sc.records quick
@@ -54,8 +55,7 @@ pub record HasFailed (sc : InputScan) (tally : Tally) (line : ℕ) : Type 0 wher
   pub style : tally.header.style ≡ Boosted
   pub fails : FailsOn (headed follows.at tally.header) sc.records line
 
--- what taking the start of a header, if it has one, returns and makes of a Quick that is as `new`
--- made it
+-- What taking the start of a header, if it has one, returns, and how it changes a new Quick.
 abbrev pub StartsQuick : Header → Bool → Held (List Kind) Op → Type 0
 StartsQuick header true quick =
     let kinds = kinds_of header.catalog in

@@ -1,4 +1,4 @@
--- Proof machinery: what the lines of an input are found to be, as those of a certificate.
+-- Proof machinery: the result of checking the lines of an input as those of a certificate.
 use Rattle.std.specs.Prelude.{◌≡◌, ℕ, List, Option, Some}
 use Rattle.std.specs.Io.KnownBytes.{IsAtEnd}
 use Rattle.pp_core.specs.Catalogs.{Objects}
@@ -16,19 +16,19 @@ use Rattle.pp_cmd_recheck.specs.Costs.{ShownCostsAtLeast}
 use Rattle.pp_cmd_recheck.specs.declared.check_input.CheckedInput.{CheckedInput}
 use Rattle.pp_cmd_recheck.specs.declared.check_input.CheckedInput.TheVariants as inputs
 
--- what an input is found to be if all its lines are taken
+-- The result of an input if all its lines are taken.
 abbrev pub ChecksLines : List (List ℕ) → CheckedInput → Type 0
 ChecksLines lines (inputs.Fault at (faults.Cause cause)) = ⊥
 ChecksLines lines (inputs.Fault at (faults.Refusal why)) =
     IsVerdictOf objects (reader_of lines) lines (Refused at why)
 ChecksLines lines (inputs.Shows catalog h) = Closes lines (Some (catalog, h))
 
--- what an input is that is not taken from this line on
+-- The result of an input whose first refused or faulty line is this one.
 abbrev pub faulty_at : ℕ → CheckFault → Checked
 faulty_at at (faults.Cause cause) = Faulty at cause
 faulty_at at (faults.Refusal why) = refused_at at why
 
--- the input, read from old to new, is found to be this
+-- The result of an input that is read from old to new.
 abbrev pub ChecksInput : Option (List ℕ) → Option (List ℕ) → CheckedInput → Type 0
 ChecksInput old new (inputs.Fault at fault) =
     WhereTold old λ bytes. IsChecked bytes (faulty_at at fault)
@@ -36,12 +36,12 @@ ChecksInput old new (inputs.Shows catalog h) =
     IsAtEnd new × IsShownOf catalog h
     × (WhereTold old λ bytes. IsChecked bytes (Shows h) × (objects_in (texts bytes) ≡ catalog))
 
--- what is shown costs at least this, by what the counter showed before the first line
+-- What is shown costs at least this much, from what the counter showed before the first line.
 abbrev pub ShownCounted : CheckedInput → (old new : ℕ) → Type 0
 ShownCounted (inputs.Fault at fault) old new = Unit {0}
 ShownCounted (inputs.Shows catalog h) old new = ShownCostsAtLeast h old new
 
--- the operations and the states that are to be reported are of these objects
+-- The operations and the states in the report are of these objects.
 abbrev pub CanReport : CheckedInput → Type 0
 CanReport (inputs.Fault at fault) = Unit {0}
 CanReport (inputs.Shows catalog h) = IsShownOf catalog h

@@ -7,7 +7,7 @@ use Rattle.pp_objects.specs.declared.states.ObjectState.{ObjectState}
 use Rattle.pp_certificate_checker.specs.declared.shown.Shown.{Shown}
 use Rattle.pp_certificate_lines.specs.Rechecked.{Shows, IsChecked, IsRecheck, IsSoundOf}
 
--- Each input has one status and one text. What an accepted one shows is sound.
+-- Each input has exactly one status and one text. What an accepted certificate shows is sound.
 pub record RecheckLaw : Type 0 where
   pub once : (bytes : List ℕ) (s r : Status) (t u : List ℕ) → IsRecheck bytes s t
       → IsRecheck bytes r u → (s ≡ r) × (t ≡ u)

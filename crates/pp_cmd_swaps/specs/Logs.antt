@@ -1,4 +1,4 @@
--- Meaning: how long the shared log of a run gets, and what is in it.
+-- Meaning: how long the shared log of a run can be, and which entries it has.
 use Rattle.std.specs.Prelude.{◌≤◌, ◌+◌, ◌*◌, Bool, IsTrue, List, [], length, Option, None, Some}
 use Rattle.pp_model.specs.Config.{Start, Step, Begin, App, Unapp, Push, Unpush, Pull, Unpull, Cmt}
 use Rattle.pp_model.specs.Config.{Quit, Note, after, first, shared_item}

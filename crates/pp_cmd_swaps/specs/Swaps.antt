@@ -19,7 +19,7 @@ use Rattle.pp_judge.specs.Objects.{start_of}
 use Rattle.pp_judge.specs.Reports.{IsCertified}
 use Rattle.pp_judge.specs.Scans.{InputScan}
 
--- the configuration that the run of these records leads to
+-- The configuration after the run of these records.
 abbrev pub config_of : {sc : InputScan} → HasRun sc → Config Op
 config_of r = after (start_of r.header.what) (bare r.run)
 
@@ -36,7 +36,7 @@ certificate_text catalog c = joined_lines (lines_of catalog c)
 abbrev pub too_large_text : ℕ → List ℕ
 too_large_text count = line (codes "toolarge swaps " ++ decimal count)
 
--- a certificate has 1,000,000 exchanges at most
+-- A certificate has at most 1,000,000 exchanges.
 abbrev pub IsSmallTold : Objects → Config Op → Status → List ℕ → Type 0
 IsSmallTold catalog c status text = (inverted_in c ≤ MOST_SWAPS)
     × (status ≡ statuses.Accepted) × (text ≡ certificate_text catalog c)
@@ -46,12 +46,12 @@ abbrev pub IsLargeTold : Config Op → Status → List ℕ → Type 0
 IsLargeTold c status text = (MOST_SWAPS < inverted_in c)
     × (status ≡ statuses.TooLarge) × (text ≡ too_large_text (inverted_in c))
 
--- the status and the text of a configuration of these objects
+-- The status and the text for a configuration of these objects.
 abbrev pub IsTold : Objects → Config Op → Status → List ℕ → Type 0
 IsTold catalog c status text = IsSmallTold catalog c status text ⊎ IsLargeTold c status text
 
--- The status and the text of an input, by how it is certified: the same report for a fault and for
--- a rejected run, and else what is printed for the configuration that the run leads to.
+-- The status and the text for an input, from the output of `certify`. A fault and a rejected run
+-- have the same report. Otherwise it is what is printed for the configuration after the run.
 abbrev pub IsSwapsOf : InputScan → (how : Status) → (report : List ℕ) → Status → List ℕ → Type 0
 IsSwapsOf sc statuses.Accepted report status text =
     (r : HasRun sc) × IsTold r.header.what.catalog (config_of r) status text

@@ -18,7 +18,8 @@ viewing_at_most committed steps =
     let count = operations (peaks steps) in if nat_lt MOST_VIEWED count then 0
     else length (serial_ops committed) + 2 * ((length committed + 1) * count)
 
--- the counter rises at most by what the start and the steps cost, and the views of their peaks
+-- The counter rises at most by the cost of the start and the steps, and that of the views of their
+-- attempts.
 abbrev pub ViewsCostAtMost : InputScan → (old new : ℕ) → Type 0
 ViewsCostAtMost sc old new =
     OfRun sc.header sc.records λ start steps. new ≤ old + (steps_at_most start steps

@@ -26,18 +26,20 @@ IsViewsText header steps text =
     × AreViews (object_of header) committed (peaks steps) vs
     × (text ≡ views_text (length steps) (length committed) vs)
 
--- Its status and its text: if the peaks have more than 2,000,000 operations, only how many.
+-- The status and the text. If the attempts have more than 2,000,000 operations, the text has only
+-- their number.
 abbrev pub IsStepsTold : Header → List (Step Op) → Status → List ℕ → Type 0
 IsStepsTold header steps status text =
     let count = operations (peaks steps) in
     ((count ≤ MOST_VIEWED) × (status ≡ statuses.Accepted) × IsViewsText header steps text)
     ⊎ ((MOST_VIEWED < count) × (status ≡ statuses.TooLarge) × (text ≡ too_large_text count))
 
--- the same of the run of a scan
+-- The status and the text for the run of a scan.
 abbrev pub IsRunTold : InputScan → Status → List ℕ → Type 0
 IsRunTold sc status text = (r : HasRun sc) × IsStepsTold r.header.what (bare r.run) status text
 
--- by how the input is certified: the same report of a fault and of a rejected run
+-- The output of `views`, from the output of `certify`. It is the same for a fault and for a
+-- rejected run.
 abbrev pub IsViewsOf : InputScan → (how : Status) → (report : List ℕ) → Status → List ℕ → Type 0
 IsViewsOf sc statuses.Accepted report status text = IsRunTold sc status text
 IsViewsOf sc statuses.Rejected report status text =

@@ -19,10 +19,10 @@ peak_bytes v = codes "view " ++ v.tx ++ codes " ops " ++ decimal v.ops
 abbrev pub view_line : View → List ℕ
 view_line v = line (peak_bytes v ++ codes " after " ++ number_bytes v.after)
 
--- of an accepted run: the first line of its report, and a line for each view
+-- The text of an accepted run: the first line of its report, and a line for each view.
 abbrev pub views_text : (steps count : ℕ) → List View → List ℕ
 views_text steps count vs = accepted_line steps count ++ flat_map view_line vs
 
--- of a run whose peaks have so many operations that their views are not looked for
+-- The text of a run whose attempts have too many operations to look for their views.
 abbrev pub too_large_text : ℕ → List ℕ
 too_large_text count = line (codes "toolarge views " ++ decimal count)

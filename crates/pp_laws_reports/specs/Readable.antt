@@ -84,11 +84,11 @@ ReportLaw = IsReadable accepted_text × IsReadable quick_accepted_text
 abbrev pub attempts_in : Header → LinedSteps Op → List (Attempt Op)
 attempts_in header run = attempts (start_of header) (bare run)
 
--- the same without their bodies, which no report has
+-- The committed transactions without their bodies, which no report has.
 abbrev pub committed_in : Header → LinedSteps Op → List (CommittedTx Op)
 committed_in header run = map committed_tx (attempts_in header run)
 
--- the state that these lead to, one after another
+-- The state after the committed transactions, one after another.
 abbrev pub final_of : Header → LinedSteps Op → List ObjectState
 final_of header run = state (object_of header) (serial (attempts_in header run))
 

@@ -47,7 +47,7 @@ LinesLaw {Op} O =
     (h : Option (Start Op)) (run : LinedSteps Op) → LinesNeverFall run → StartMeets O h →
     RunsFrom O (first h) (bare run) → RespectsLines h run
 
--- So does an accepted run of records whose lines never fall.
+-- An accepted run of records whose lines never fall respects real time by these lines.
 abbrev pub RecordsLaw : {F R Op State : Type 0} → Object Op State → Translation F R Op → Type 0
 RecordsLaw {F} {R} {Op} O T =
     (h : Option (Start Op)) (rs : Records R) (run : LinedSteps Op) → LinesNeverFall rs →

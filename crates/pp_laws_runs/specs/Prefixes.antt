@@ -30,7 +30,7 @@ pub record IsPrefixOfLines (front back : List ℕ) : Type 0 where
 abbrev pub Begins : {A : Type 0} → List A → List A → Type 0
 Begins {A} xs ys = (rest : List A) × (ys ≡ xs ++ rest)
 
--- an input is accepted, with so many steps and these committed transactions
+-- An input is accepted, with this many steps and these committed transactions.
 abbrev pub IsAccepted : List ℕ → ℕ → List (Attempt Op) → Type 0
 IsAccepted bytes steps committed = (final : List ObjectState)
     × IsReport setting_of TooManySteps (scan bytes) (Accepts steps committed final)

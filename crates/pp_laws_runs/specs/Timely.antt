@@ -23,7 +23,7 @@ RisingLaw = (limits : Limits) (bytes : List ℕ) → LinesRise (scan_within limi
 abbrev pub TimelyLaw : Type 0
 TimelyLaw = (sc : InputScan) → LinesNeverFall sc.records → EachStepMeets sc → IsTimely sc
 
--- So an input is timely if `certify` accepts it.
+-- An input is timely if `certify` accepts it.
 abbrev pub CertifiedTimelyLaw : Type 0
 CertifiedTimelyLaw = (bytes text : List ℕ) → IsCertified bytes statuses.Accepted text →
     IsTimely (scan bytes)

@@ -16,11 +16,11 @@ use Rattle.pp_records.specs.Records as records
 pub record PlacesSwap {Op State : Type 0} (O : Object Op State) (place : Op → ℕ) : Type 0 where
   pub apart : (a b : Op) → place a ≢ place b → Swaps O a b
 
--- an own entry of L at the place o
+-- An own entry of L at the place o.
 abbrev pub IsOwnAt : {Op : Type 0} → (Op → ℕ) → ℕ → List (LocalEntry Op) → LocalEntry Op → Type 0
 IsOwnAt place o l a = In a l × (is_own a.mark ≡ true) × (place a.op ≡ o)
 
--- a committed entry of G at the place o
+-- A committed entry of G at the place o.
 abbrev pub IsDoneAt : {Op : Type 0} → (Op → ℕ) → ℕ → List (SharedEntry Op) → SharedEntry Op →
     Type 0
 IsDoneAt place o G p = In p G × (p.committed ≡ true) × (place p.op ≡ o)
@@ -28,20 +28,20 @@ IsDoneAt place o G p = In p G × (p.committed ≡ true) × (place p.op ≡ o)
 -- The conditions on an op record of the open transaction x.
 pub record GoodOp {Op State : Type 0} (O : Object Op State) (place : Op → ℕ) (c : Config Op)
     (id : ℕ) (op : Op) (x : Tx Op) : Type 0 where
-  -- APP 2
+  -- Criterion 2 of APP.
   pub new : In id c.ids → ⊥
-  -- APP 3
+  -- Criterion 3 of APP.
   pub begins : Begins x.body (calls O (own_items x.local) ++ O.call op ∷ [])
-  -- each own entry at its place, and each committed one there that is not in L
+  -- Each own entry at its place swaps with each committed one there that is not in L.
   pub swaps : (a : LocalEntry Op) (p : SharedEntry Op) → IsOwnAt place (place op) x.local a →
       IsDoneAt place (place op) c.shared p → stands_in x.local p.id ≡ false → Swaps O a.op p.op
-  -- PUSH 4
+  -- Criterion 4 of PUSH.
   pub passes : (u : SharedEntry Op) → In u c.shared → u.committed ≡ false → u.owner ≢ x.name →
       Swaps O u.op op
-  -- PUSH 5
+  -- Criterion 5 of PUSH.
   pub allowed : Allowed O (shared_ops c.shared ++ op ∷ [])
 
--- t is open, and P is true of it
+-- The transaction t is open, and P is true of it.
 abbrev pub OfOpen : {Op : Type 0} → Config Op → Name → (Tx Op → Type 0) → Type 0
 OfOpen {Op} c t P = (x : Tx Op) × (tx t c.opened ≡ Some x) × P x
 
@@ -62,21 +62,22 @@ Good O place c (records.Depend t source) = ⊥
 Good O place c (records.Publish t) = ⊥
 Good O place c (records.DropSource t source) = ⊥
 
--- in L the entry of the first id is before that of the second
+-- In L, the entry of the first id is before that of the second.
 abbrev pub ComesBefore : {Op : Type 0} → ℕ → ℕ → List (LocalEntry Op) → Type 0
 ComesBefore {Op} i j l = (a b : LocalEntry Op) × Before a b l × (a.id ≡ i) × (b.id ≡ j)
 
 -- The local log L follows G.
 pub record Follows {Op State : Type 0} (O : Object Op State) (place : Op → ℕ)
     (G : List (SharedEntry Op)) (L : List (LocalEntry Op)) : Type 0 where
-  -- every own entry is pushed, and they are in G in the order of L
+  -- Each own entry is pushed, and the own entries are in G in the order of L.
   pub own_pushed : (a : LocalEntry Op) → In a L → is_own a.mark ≡ true → a.mark ≡ Pushed
   pub own_order : (a b : LocalEntry Op) → Before a b L → is_own a.mark ≡ true →
       is_own b.mark ≡ true → StandsBefore a.id b.id G
-  -- every pulled entry is in G, committed
+  -- Each pulled entry is in G, and committed.
   pub pulled_stand : (p : LocalEntry Op) → In p L → p.mark ≡ Pulled →
       In (as_shared p.owner true (item p)) G
-  -- a committed entry before l in G, at its place, and not before l in L, swaps with l
+  -- A committed entry swaps with l if it is at the place of l, before l in G, and not before l in
+  -- L.
   pub late : (l : LocalEntry Op) (r : SharedEntry Op) → In l L → IsDoneAt place (place l.op) G r →
       StandsBefore r.id l.id G → (ComesBefore r.id l.id L → ⊥) → Swaps O r.op l.op
 
@@ -100,7 +101,7 @@ pub record BoostedBut {Op State : Type 0} (O : Object Op State) (place : Op → 
   pub follows : (x : Tx Op) → In x c.opened → Follows O place c.shared x.local
   pub anchored : (x : Tx Op) → In x c.opened → x.name ≢ t → Anchored place x.local
 
--- the entries of G that are not in L
+-- The entries of G that are not in L.
 abbrev pub rest : {Op : Type 0} → List (LocalEntry Op) → List (SharedEntry Op) →
     List (SharedEntry Op)
 rest l G = filter (λ g. not (stands_in l g.id)) G

@@ -15,7 +15,7 @@ use Rattle.pp_records.specs.Expansions.{stands_in}
 use Rattle.pp_records.specs.Records.{RunRecord}
 use Rattle.pp_records.specs.Records as records
 
--- An open transaction, by its own operations, and the ids of what it has missed.
+-- An open transaction in a brief: its own operations, and the ids of what it has missed.
 pub record BriefTx (Op : Type 0) : Type 0 where
   pub name : Name
   pub thread : Name
@@ -30,7 +30,7 @@ pub record Brief (Op : Type 0) : Type 0 where
   pub shared : List (SharedEntry Op)
   pub done : List (CommittedTx Op)
 
--- one of the operations is at the place o
+-- One of the operations is at the place o.
 abbrev pub any_at : {Op : Type 0} → (Op → ℕ) → ℕ → List (Item Op) → Bool
 any_at place o [] = false
 any_at place o (p ∷ l) = (place p.op == o) || any_at place o l
@@ -38,7 +38,7 @@ any_at place o (p ∷ l) = (place p.op == o) || any_at place o l
 abbrev pub shared_ids : {Op : Type 0} → List (SharedEntry Op) → List ℕ
 shared_ids G = map (λ g. g.id) G
 
--- committed, at the place of an own entry of L, and not in L
+-- The entry is committed, at the place of an own entry of L, and not in L.
 abbrev pub is_missed : {Op : Type 0} → (Op → ℕ) → List (LocalEntry Op) → SharedEntry Op → Bool
 is_missed place l g =
     g.committed && (any_at place (place g.op) (own_items l) && not (stands_in l g.id))
@@ -56,7 +56,7 @@ brief_tx place G x =
       missed = missed place G x.local;
     }
 
--- The configuration in brief: of each open transaction only its own operations, and what it has
+-- The brief of a configuration. An open transaction has only its own operations, and what it has
 -- missed.
 abbrev pub brief : {Op : Type 0} → (Op → ℕ) → Config Op → Brief Op
 brief place c =
@@ -68,7 +68,7 @@ brief place c =
       done = c.done;
     }
 
--- the open transaction of this name
+-- The open transaction of this name.
 abbrev pub brief_of : {Op : Type 0} → Name → List (BriefTx Op) → Option (BriefTx Op)
 brief_of t xs = find (λ x. x.name =ⁿ t) xs
 
@@ -83,7 +83,7 @@ pub record BriefGoodOp {Op State : Type 0} (O : Object Op State) (place : Op →
       Swaps O u.op op
   pub allowed : Allowed O (shared_ops B.shared ++ op ∷ [])
 
--- t is open in the brief, and P is true of it
+-- The transaction t is open in the brief, and P is true of it.
 abbrev pub InBrief : {Op : Type 0} → Brief Op → Name → (BriefTx Op → Type 0) → Type 0
 InBrief {Op} B t P = (x : BriefTx Op) × (brief_of t B.opened ≡ Some x) × P x
 
@@ -117,7 +117,7 @@ BriefGood O place B (records.Depend t source) = ⊥
 BriefGood O place B (records.Publish t) = ⊥
 BriefGood O place B (records.DropSource t source) = ⊥
 
--- f at the transaction t
+-- The briefs of the transactions, with f applied to that of t.
 abbrev pub at_brief : {Op : Type 0} → Name → (BriefTx Op → BriefTx Op) → List (BriefTx Op) →
     List (BriefTx Op)
 at_brief t f xs = map (λ x. cond (x.name =ⁿ t) (f x) x) xs
@@ -128,7 +128,7 @@ without_brief t xs = filter (λ x. not (x.name =ⁿ t)) xs
 abbrev pub without_owner : {Op : Type 0} → Name → List (SharedEntry Op) → List (SharedEntry Op)
 without_owner t G = filter (λ g. not (g.owner =ⁿ t)) G
 
--- one more own operation: nothing at its place is missed now
+-- One more own operation. Nothing at its place is missed now.
 abbrev pub grown : {Op : Type 0} → (Op → ℕ) → List (SharedEntry Op) → ℕ → Op → BriefTx Op →
     BriefTx Op
 grown place G id op x =
@@ -137,11 +137,12 @@ grown place G id op x =
       missed = shared_ids (filter (λ g. has_id g.id x.missed && not (place g.op == place op)) G);
     }
 
--- it is owned by t, and at the place of one of the operations
+-- The entry is owned by t, and at the place of one of the operations.
 abbrev pub is_met : {Op : Type 0} → (Op → ℕ) → Name → List (Item Op) → SharedEntry Op → Bool
 is_met place t own g = (g.owner =ⁿ t) && any_at place (place g.op) own
 
--- t commits: its entries at the places of own ones are missed too
+-- The transaction t commits: the others now also miss its entries at the places of their own
+-- operations.
 abbrev pub missing_more : {Op : Type 0} → (Op → ℕ) → List (SharedEntry Op) → Name → BriefTx Op →
     BriefTx Op
 missing_more place G t x =
@@ -156,7 +157,7 @@ abbrev pub own_list : {Op : Type 0} → Option (BriefTx Op) → List (Item Op)
 own_list None = []
 own_list (Some x) = x.own
 
--- what a begin makes of a brief
+-- The brief after a begin.
 abbrev pub brief_begun : {Op : Type 0} → Brief Op → Step Op → Brief Op
 brief_begun B (Begin t p b) =
     record B {
@@ -174,7 +175,7 @@ brief_begun B (Cmt t) = B
 brief_begun B (Quit t) = B
 brief_begun B (Note t) = B
 
--- What a good record makes of a brief.
+-- The brief after a good record.
 abbrev pub brief_then : {Op : Type 0} → (Op → ℕ) → Brief Op → RunRecord Op → Brief Op
 brief_then place B (records.Plain step) = brief_begun B step
 brief_then place B (records.Op t id op) =

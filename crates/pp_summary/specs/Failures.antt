@@ -6,12 +6,12 @@ use Rattle.pp_model.specs.Rules.{IsVerdict, Rejected, RunsFrom, StartMeets, Verd
 use Rattle.pp_records.specs.Runs.{Lined, LinedSteps, Records, Standing, Translation, after_records}
 use Rattle.pp_records.specs.Runs.{bare, joined_steps, outset, steps_at}
 
--- all steps of the records, also those after one that fails
+-- All steps of the records, also those after one that fails.
 abbrev pub all_steps : {F R Op : Type 0} → Translation F R Op → Option (Start Op) → Records R →
     LinedSteps Op
 all_steps T h rs = joined_steps T (outset T h) rs
 
--- where the records lead
+-- The configuration and the front after the records.
 abbrev pub standing_after : {F R Op : Type 0} → Translation F R Op → Option (Start Op) → Records R →
     Standing F Op
 standing_after T h rs = after_records T (outset T h) rs
@@ -30,8 +30,7 @@ pub record FailsIn {F R Op State : Type 0} (O : Object Op State) (T : Translatio
       (steps_at T (standing_after T h before) r.what) →
       ⊥
 
--- the verdict is a rejection of one of these steps by one of its criteria, and it is on this
--- line
+-- The verdict rejects one of these steps by one of its criteria, and this step is on this line.
 abbrev pub IsRejectedOn : {Op : Type 0} → LinedSteps Op → ℕ → Verdict → Type 0
 IsRejectedOn {Op} ss line v =
     (i n : ℕ) × (v ≡ Rejected (suc i) (suc n))
@@ -39,9 +38,9 @@ IsRejectedOn {Op} ss line v =
 
 pub record FailureLaw {F R Op State : Type 0} (O : Object Op State) (T : Translation F R Op) :
     Type 0 where
-  -- One record fails at most, at one position; none if each step holds, and, if the start
-  -- holds, one if not. (That there is one is said by what can not be, since which it is can not
-  -- be computed.)
+  -- At most one record fails, at one position. None fails if each step meets its criteria. One
+  -- fails if the start meets its criteria and a step does not. (This says that it is impossible
+  -- that none fails, since it cannot be computed which one does.)
   pub one : (h : Option (Start Op)) (rs : Records R) (r q : Lined R) (a : FailsIn O T h rs r)
       (b : FailsIn O T h rs q) → (r ≡ q) × (a.before ≡ b.before)
   pub none : (h : Option (Start Op)) (rs : Records R) (r : Lined R) → FailsIn O T h rs r →
@@ -49,13 +48,14 @@ pub record FailureLaw {F R Op State : Type 0} (O : Object Op State) (T : Transla
   pub some : (h : Option (Start Op)) (rs : Records R) → StartMeets O h →
       (RunsFrom O (first h) (bare (all_steps T h rs)) → ⊥) →
       ((r : Lined R) → FailsIn O T h rs r → ⊥) → ⊥
-  -- records after it change nothing
+  -- Records after the failing one change nothing.
   pub stays : (h : Option (Start Op)) (rs more : Records R) (r : Lined R) → FailsIn O T h rs r →
       FailsIn O T h (rs ++ more) r
-  -- If the start fails, the verdict of the steps is the rejection of it.
+  -- If the start fails, the verdict of the steps rejects the start.
   pub unbegun : (h : Option (Start Op)) (rs : Records R) (v : Verdict) → (StartMeets O h → ⊥) →
       IsVerdict O h (bare (all_steps T h rs)) v → (n : ℕ) × (v ≡ Rejected 0 (suc n))
-  -- The verdict of the steps (there is one at most) is a rejection, of a step on its line.
+  -- The verdict of the steps, of which there is at most one, rejects a step on the line of the
+  -- record.
   pub verdict : (h : Option (Start Op)) (rs : Records R) (r : Lined R) (v : Verdict) →
       FailsIn O T h rs r → IsVerdict O h (bare (all_steps T h rs)) v →
       IsRejectedOn (all_steps T h rs) r.line v

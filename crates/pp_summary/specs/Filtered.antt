@@ -15,6 +15,6 @@ remainder part = cast_unsigned w64 part.key % REMAINDERS
 abbrev pub MayHave : PartFilter → Part → Type 0
 MayHave filter part = slice_index_or filter.remainders (remainder part) false ≡ true
 
--- So were parts with the remainders of all items.
+-- Parts with the remainders of all items were added.
 abbrev pub MayHaveAll : {Op : Type 0} → (Op → Part) → PartFilter → List (Item Op) → Type 0
 MayHaveAll {Op} part_of filter items = (p : Item Op) → In p items → MayHave filter (part_of p.op)

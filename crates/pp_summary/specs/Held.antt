@@ -21,7 +21,7 @@ pub record Held (Shape Op : Type 0) : Type 0 where
   pub brief : Brief Op
   pub count : ℕ
 
--- What a step that is a record requires: a body within the limits.
+-- The condition on a step that is a record: its body is within the limits.
 abbrev pub IsStepAsked : {Op : Type 0} → Step Op → Type 0
 IsStepAsked (Begin t p b) = IsWithinLimits b
 IsStepAsked (App t id op) = Unit {0}
@@ -39,12 +39,12 @@ abbrev pub IsOpAsked : {Shape State Op Undo : Type 0} → Object Shape State Op 
     Type 0
 IsOpAsked o shape op = IsTrue (o.fits shape op) × IsTrue (o.ranged op)
 
--- the same of an operation of a start
+-- The operation of an item of a start is one of the objects, and its numbers are in range.
 abbrev pub IsItemAsked : {Shape State Op Undo : Type 0} → Object Shape State Op Undo → Shape →
     Item Op → Type 0
 IsItemAsked o shape p = IsOpAsked o shape p.op
 
--- What a record requires of its step or operation.
+-- The condition on the step or the operation of a record.
 abbrev pub IsRecordAsked : {Shape State Op Undo : Type 0} → Object Shape State Op Undo → Shape →
     RunRecord Op → Type 0
 IsRecordAsked o shape (records.Plain step) = IsStepAsked step
@@ -61,7 +61,7 @@ IsRecordAsked o shape (records.Publish t) = Unit {0}
 IsRecordAsked o shape (records.DropSource t source) = Unit {0}
 
 module _ {Shape State Op Undo : Type 0} (o : Object Shape State Op Undo) (place : Op → ℕ) where
-  -- It is the brief of this boosted configuration.
+  -- The Quick holds the brief of this boosted configuration.
   pub record IsHeldOf (v : Held Shape Op) (c : Config Op) : Type 0 where
     pub boosted : Boosted (rules_of o v.shape) place c
     pub is : brief place c ≡ v.brief
@@ -70,9 +70,10 @@ module _ {Shape State Op Undo : Type 0} (o : Object Shape State Op Undo) (place 
   abbrev pub held_next : Held Shape Op → Config Op → Held Shape Op
   held_next v c = record { shape = v.shape; brief = brief place c; count = v.count + 1 }
 
-  -- What it is to take a record. For each boosted configuration of which it is the brief: true says
-  -- that every step that the record means holds there, and the Quick is then the brief of the
-  -- configuration that they leave. False says that one of them fails, and the Quick is as it was.
+  -- What taking a record returns. This is for each boosted configuration with the brief of the
+  -- Quick. True means that every step of the record meets its criteria there, and the Quick then
+  -- has the brief of the configuration after these steps. False means that one of the steps fails,
+  -- and the Quick is unchanged.
   abbrev pub TakesIn : Held Shape Op → RunRecord Op → Bool → Held Shape Op → Front → Config Op →
       Type 0
   TakesIn v r true w f c =
@@ -84,17 +85,17 @@ module _ {Shape State Op Undo : Type 0} (o : Object Shape State Op Undo) (place 
   abbrev pub Takes : Held Shape Op → RunRecord Op → Bool → Held Shape Op → Type 0
   Takes v r answer w = (f : Front) (c : Config Op) → IsHeldOf v c → TakesIn v r answer w f c
 
-  -- the Quick before the first record, after this start if there is one
+  -- The Quick before the first record, after this start if there is one.
   abbrev pub held_first : Shape → Option (Start Op) → Held Shape Op
   held_first shape h = record { shape = shape; brief = brief place (first h); count = 0 }
 
-  -- What it is to start. False says that the start fails, and the Quick is as it was.
+  -- What starting returns. False means that the start fails, and the Quick is unchanged.
   abbrev pub Starts : Held Shape Op → Start Op → Bool → Held Shape Op → Type 0
   Starts v z true w =
       StartMeets (rules_of o v.shape) (Some z) × (w ≡ held_first v.shape (Some z))
   Starts v z false w = (StartMeets (rules_of o v.shape) (Some z) → ⊥) × (w ≡ v)
 
--- The record means so many steps, in each boosted configuration of which this is the brief.
+-- The record means this many steps, in each boosted configuration with this brief.
 abbrev pub HasSteps : {Shape State Op Undo : Type 0} → Object Shape State Op Undo → (Op → ℕ) →
     Held Shape Op → RunRecord Op → ℕ → Type 0
 HasSteps {Op = Op} o place v r n =
@@ -105,8 +106,8 @@ HasSteps {Op = Op} o place v r n =
 abbrev pub own_count : {Op : Type 0} → Name → Brief Op → ℕ
 own_count t B = length (own_list (brief_of t B.opened))
 
--- What taking a record costs at most, good or not: an operation is applied once, and an abort or a
--- retry takes each own operation back.
+-- The most that taking a record costs, whether it is good or not. An operation is applied once,
+-- and an abort or a retry takes each own operation back.
 abbrev pub take_most : {Op : Type 0} → Brief Op → RunRecord Op → ℕ
 take_most B (records.Plain step) = 0
 take_most B (records.Op t id op) = 1
@@ -121,11 +122,11 @@ take_most B (records.Depend t source) = 0
 take_most B (records.Publish t) = 0
 take_most B (records.DropSource t source) = 0
 
--- What a record costs that is good.
+-- The cost of a good record.
 abbrev pub GoodCosts : {Op : Type 0} → Brief Op → RunRecord Op → ℕ → ℕ → Type 0
 GoodCosts B r old new = new ≡ old + take_most B r
 
--- What taking a record costs by whether it is good: nothing if it is not.
+-- The cost of taking a record, by whether it is good. A record that is not good costs nothing.
 abbrev pub TakeCosts : {Op : Type 0} → Brief Op → RunRecord Op → Bool → ℕ → ℕ → Type 0
 TakeCosts B r true old new = GoodCosts B r old new
 TakeCosts B r false old new = new ≡ old

@@ -1,4 +1,4 @@
--- Proof machinery: what is known of own operations, part by part.
+-- Proof machinery: which own operations the samples cover, part by part.
 use Rattle.std.specs.Prelude.{◌<◌, List, Option, None, Some, length}
 use Rattle.std.specs.Map.{lookup}
 use Rattle.pp_core.specs.declared.entry.Item.{Item}
@@ -20,10 +20,10 @@ module _ {Shape State Op Undo : Type 0} (o : Object Shape State Op Undo) (part_o
   abbrev pub Knows : List (Part × SampleList Op) → Op → Type 0
   Knows slots op = CoversOf o (lookup (same_part (part_of op)) slots) op
 
-  -- They do for each of the items.
+  -- The samples cover each of the items.
   abbrev pub KnowsAll : List (Part × SampleList Op) → List (Item Op) → Type 0
   KnowsAll slots items = (p : Item Op) → In p items → Knows slots p.op
 
-  -- They do if the items are more than few.
+  -- The samples cover each of the items if there are more than `FEW_OPERATIONS`.
   abbrev pub KnowsMany : List (Part × SampleList Op) → List (Item Op) → Type 0
   KnowsMany slots items = FEW_OPERATIONS < length items → KnowsAll slots items

@@ -29,12 +29,12 @@ FrontLaw {Op} O =
 
 -- If the start holds, the first configuration is boosted, and good records keep it so.
 pub record KeepsBoosted {Op State : Type 0} (O : Object Op State) (place : Op → ℕ) : Type 0 where
-  -- if the start holds, the first configuration is boosted
+  -- If the start meets its criteria, the first configuration is boosted.
   pub start : (h : Option (Start Op)) → StartMeets O h → Boosted O place (first h)
-  -- a record is good exactly if every step that it means holds
+  -- A record is good exactly if every step that it means meets its criteria.
   pub good : (f : Front) (c : Config Op) (r : RunRecord Op) → IsBoosted r → Boosted O place c →
       Good O place c r ↔ RunsFrom O c (expand place styles.Boosted f c r)
-  -- a good record leads to a boosted configuration
+  -- A good record leads to a boosted configuration.
   pub kept : (f : Front) (c : Config Op) (r : RunRecord Op) → IsBoosted r → Boosted O place c →
       Good O place c r → Boosted O place (after_from c (expand place styles.Boosted f c r))
 
@@ -67,7 +67,7 @@ pub record BriefsDecide {Op State : Type 0} (O : Object Op State) (place : Op �
       BriefRuns O place (brief place (first h)) (bare rs)
       ↔ IsVerdict O h (bare (joined_steps (boosting place ks) (outset (boosting place ks) h) rs))
       Accepted
-  -- a good run leads to a boosted configuration, whose brief is the last one
+  -- A good run leads to a boosted configuration, whose brief is the last one.
   pub boosted :
       (ks : List Kind) (p : Standing Front Op) (rs : Records (RunRecord Op)) → AreBoosted rs →
       Boosted O place p.config → BriefRuns O place (brief place p.config) (bare rs) →
@@ -87,7 +87,7 @@ pub record BriefsDecide {Op State : Type 0} (O : Object Op State) (place : Op �
       (step n : ℕ) × (v ≡ Rejected step (suc n))
       × (i + length (joined_steps (boosting place ks) p rs) ≤ step)
       × (step < i + length (joined_steps (boosting place ks) p (rs ++ r ∷ [])))
-  -- and these steps are on its line
+  -- These steps are on the line of the record.
   pub lined :
       (ks : List Kind) (p : Standing Front Op) (rs more : Records (RunRecord Op))
       (r : Lined (RunRecord Op)) (k : ℕ) (s : Lined (Step Op)) →
@@ -99,7 +99,7 @@ pub record BriefsDecide {Op State : Type 0} (O : Object Op State) (place : Op �
 abbrev pub DecidedLaw : {Op State : Type 0} → Object Op State → Type 0
 DecidedLaw {Op} O = (place : Op → ℕ) → PlacesSwap O place → BriefsDecide O place
 
--- the shared log without the entries of these ids
+-- The shared log without the entries of these ids.
 abbrev pub without_ids : {Op : Type 0} → List ℕ → List (SharedEntry Op) → List (SharedEntry Op)
 without_ids js G = filter (λ g. not (has_id g.id js)) G
 

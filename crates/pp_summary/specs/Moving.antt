@@ -1,4 +1,4 @@
--- Proof machinery: what taking a record makes of what a Quick keeps.
+-- Proof machinery: how taking a record changes what a Quick keeps.
 use Rattle.std.specs.Prelude.{◌≡◌, ◌+◌, ℕ, Bool, true, false}
 use Rattle.pp_kind.specs.Object.{Object, rules_of}
 use Rattle.pp_records.specs.Records.{RunRecord}
@@ -6,18 +6,18 @@ use Rattle.pp_summary.specs.Brief.{BriefGood, brief_then}
 use Rattle.pp_summary.specs.Shown.{KeepsQuick, Kept, shown}
 
 module _ {Shape State Op Undo : Type 0} (o : Object Shape State Op Undo) (place : Op → ℕ) where
-  -- the record is good
+  -- The record is good.
   abbrev pub IsGood : Kept Shape Op → RunRecord Op → Type 0
   IsGood v r = BriefGood (rules_of o v.shape) place (shown place v) r
 
-  -- what a good record makes of it
+  -- What the Quick keeps after a good record.
   pub record Moves (v : Kept Shape Op) (r : RunRecord Op) (w : Kept Shape Op) : Type 0 where
     pub shape : w.shape ≡ v.shape
     pub count : w.count ≡ v.count + 1
     pub shown : shown place w ≡ brief_then place (shown place v) r
     pub keeps : KeepsQuick o place w
 
-  -- What taking it returns, and what is kept then.
+  -- What taking a record returns, and what the Quick keeps then.
   abbrev pub Answers : Kept Shape Op → RunRecord Op → Bool → Kept Shape Op → Type 0
   Answers v r true w = IsGood v r × Moves v r w
   Answers v r false w = (IsGood v r → ⊥) × (w ≡ v)

@@ -1,4 +1,4 @@
--- Meaning: what a Quick that takes the records of a run, one after another, says of the run.
+-- Meaning: what a Quick that takes the records of a run, one by one, proves about the run.
 use Rattle.std.specs.Prelude.{◌≡◌, ℕ, true, false, List, [], ◌∷◌, ◌++◌, length, map, Option}
 use Rattle.pp_core.specs.declared.call.Kind.{Kind}
 use Rattle.pp_model.specs.Config.{Start, after, first}
@@ -25,29 +25,29 @@ module _ {Shape State Op Undo : Type 0} (o : Object Shape State Op Undo) (place 
     pub held : IsHeldOf o place v (standing_after (boosting place ks) h rs).config
     pub count : v.count ≡ length rs
 
-  -- What a reader of records keeps.
+  -- What a reader of records knows about the run.
   pub record IsReader : Type 0 where
     pub nothing : (shape : Shape) → StartMeets (rules_of o shape) h →
         HasRead [] (held_first o place shape h)
-    -- a record that is taken
+    -- A record that is taken.
     pub more :
         (rs : Records (RunRecord Op)) (r : Lined (RunRecord Op)) (v w : Held Shape Op) →
         IsBoosted r.what → HasRead rs v → Takes o place v r.what true w → HasRead (rs ++ r ∷ []) w
-    -- a record that is not
+    -- A record that is not taken.
     pub fails :
         (rs behind : Records (RunRecord Op)) (r : Lined (RunRecord Op)) (v w : Held Shape Op) →
         HasRead rs v → Takes o place v r.what false w →
         FailsIn (rules_of o v.shape) (boosting place ks) h (rs ++ r ∷ behind) r
-    -- the end of the records
+    -- The end of the records.
     pub accepted : (rs : Records (RunRecord Op)) (v : Held Shape Op) → HasRead rs v →
         IsVerdict (rules_of o v.shape) h (bare (all_steps (boosting place ks) h rs)) Accepted
     pub done : (rs : Records (RunRecord Op)) (v : Held Shape Op) → HasRead rs v →
         v.brief.done ≡ (after h (bare (all_steps (boosting place ks) h rs))).done
-    -- the start and each transaction that the steps commit, with their operations
+    -- The start and each transaction that the steps commit, with their operations.
     pub committed : (rs : Records (RunRecord Op)) (v : Held Shape Op) → HasRead rs v →
         v.brief.done
         ≡ map committed_tx (attempts h (bare (all_steps (boosting place ks) h rs)))
-    -- the records are good by their briefs, which lead to that of the Quick
+    -- The records are good by their briefs, which lead to that of the Quick.
     pub good : (rs : Records (RunRecord Op)) (v : Held Shape Op) → HasRead rs v →
         BriefRuns (rules_of o v.shape) place (brief place (first h)) (bare rs)
     pub leads : (rs : Records (RunRecord Op)) (v : Held Shape Op) → HasRead rs v →
@@ -65,7 +65,7 @@ abbrev pub ReaderLaw : {Shape State Op Undo : Type 0} → Object Shape State Op 
     Type 0
 ReaderLaw {Op = Op} o place = (ks : List Kind) (h : Option (Start Op)) → IsReader o place ks h
 
--- which record of a boosted run fails
+-- Which record of a boosted run fails.
 abbrev pub BoostedFailureLaw : {Op State : Type 0} → model.Object Op State → Type 0
 BoostedFailureLaw {Op} O =
     (place : Op → ℕ) (ks : List Kind) → FailureLaw O (boosting place ks)

@@ -17,7 +17,7 @@ pub record IsFirst (place : ℕ) (entries : List (ℕ × ℕ)) (k : ℕ) : Type 
 abbrev pub HaveOwnPlaces : List (ℕ × ℕ) → Type 0
 HaveOwnPlaces entries = (p q : ℕ) → Before p q (keys_of entries) → p ≢ q
 
--- All counts together.
+-- The sum of all counts.
 abbrev pub seen_total : List (ℕ × ℕ) → ℕ
 seen_total [] = 0
 seen_total (e ∷ entries) = e.1 + seen_total entries

@@ -22,12 +22,12 @@ FalseAt [] k n = ⊥
 FalseAt (a ∷ qs) zero n = FirstFalse a.asks (suc n)
 FalseAt (a ∷ qs) (suc k) n = FirstFalse a.asks 0 × FalseAt qs k n
 
--- it is the rule of this step
+-- The rule is that of this step.
 abbrev pub IsRule : {Op : Type 0} → Option (Step Op) → Rule → Type 0
 IsRule None rule = ⊥
 IsRule (Some s) rule = rule ≡ rule_of s
 
--- it is the rule of step number k
+-- The rule is that of step number k.
 abbrev pub HasRuleAt : {Op : Type 0} → List (Asked Op) → ℕ → Rule → Type 0
 HasRuleAt [] k rule = ⊥
 HasRuleAt (a ∷ qs) zero rule = IsRule a.step rule
@@ -60,7 +60,7 @@ pub record Fails {Op : Type 0} (qs : List (Asked Op)) (ds : List (List (Detail O
   pub criterion : x.criterion ≡ suc number
   pub detail : HasDetailAt ds x.offset number x.detail
 
--- The first step that violates a criterion, or none if there is none.
+-- The first step that violates a criterion is found, or none if there is none.
 abbrev pub Finds : {Op : Type 0} → List (Asked Op) → List (List (Detail Op)) →
     Option (Violation Op) → Type 0
 Finds qs ds None = AllTrue qs

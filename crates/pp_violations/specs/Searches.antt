@@ -30,43 +30,43 @@ use Rattle.pp_violations.specs.Summarised.{kept_summary, seen_of}
 use Rattle.pp_violations.specs.declared.violation.Broken.{Broken}
 use Rattle.pp_violations.specs.declared.violation.Violation.{Violation}
 
--- the criterion that a step of this number and rule violates
+-- The criterion that a step of this number and rule violates.
 abbrev pub step_violation : {Op : Type 0} → ℕ → Rule → Broken Op → Violation Op
 step_violation offset rule x =
     record { offset = offset; rule = rule; criterion = x.criterion; detail = x.detail }
 
--- a step that violates its criterion 1, without evidence
+-- A step that violates its criterion 1, without evidence.
 abbrev pub alone_violation : {Op : Type 0} → Rule → Violation Op
 alone_violation rule = record { offset = 0; rule = rule; criterion = 1; detail = Nothing }
 
--- the criteria of BEGIN
+-- The criteria of BEGIN.
 abbrev pub begin_facts : {Op : Type 0} → Summary Op → Name → Name → List (Type 0)
 begin_facts {Op} B t p =
     (In t B.names → ⊥) ∷ ((x : OpenSummary Op) → In x B.opened → x.thread ≢ p) ∷ []
 
--- What the transaction has of a place: the first commits there that it has seen, and then its own
--- operations.
+-- The operations that the transaction has at a place: the first commits there, which it has seen,
+-- and then its own operations.
 abbrev pub view_items : {Shape Op : Type 0} → (Op → ℕ) → ℕ → Kept Shape Op →
     OpenTx (List (Item Op)) → List (Item Op)
 view_items place q v x =
     take (seen_of x.seen.entries q) (serial_at place q v.committed)
     ++ items_at place q x.own
 
--- it is committed, at this place, and its id is not among these
+-- The entry is committed, at this place, and its id is not among these.
 abbrev pub is_lacking : {Op : Type 0} → (Op → ℕ) → ℕ → List ℕ → SharedEntry Op → Bool
 is_lacking place q seen g =
     (g.committed && (place g.op == q)) && not (list_any (λ i. g.id == i) seen)
 
 module _ {Shape State Op Undo : Type 0} (o : Object Shape State Op Undo) where
-  -- each of these operations is one of the objects, with numbers in range
+  -- Each of these operations is one of the objects, with numbers in range.
   abbrev pub AreItemsAsked : Shape → List (Item Op) → Type 0
   AreItemsAsked shape items = (p : Item Op) → In p items → IsItemAsked o shape p
 
-  -- the same of entries
+  -- The operation of each entry is one of the objects, with numbers in range.
   abbrev pub AreEntriesAsked : Shape → List (SharedEntry Op) → Type 0
   AreEntriesAsked shape entries = (g : SharedEntry Op) → In g entries → IsOpAsked o shape g.op
 
-  -- the evidence that one of these operations does not swap with another after it
+  -- The evidence that one of these operations does not swap with another after it.
   abbrev pub own_swap : List (Item Op) → Op → Detail Op
   own_swap own op = first_swap (λ a. a.id) (λ a. o.refuting a.op op) own
 
@@ -77,7 +77,7 @@ module _ {Shape State Op Undo : Type 0} (o : Object Shape State Op Undo) (place 
     pub log : IsLog o s before
     pub shape_is : o.shape s ≡ shape
 
-  -- the criteria of a PULL after these operations, of a transaction with these own ones
+  -- The criteria of a PULL after these operations, for a transaction with these own ones.
   abbrev pub pull_facts : List Op → List (Item Op) → SharedEntry Op → List (Type 0)
   pull_facts before own g =
       Unit {0}
@@ -87,7 +87,7 @@ module _ {Shape State Op Undo : Type 0} (o : Object Shape State Op Undo) (place 
       ∷ ((a : Item Op) → In a own → place a.op ≡ place g.op → SwapsIn o shape a.op g.op)
       ∷ []
 
-  -- their evidence
+  -- The evidence for each criterion of a PULL.
   abbrev pub pull_evidence : List Op → List (Item Op) → SharedEntry Op → List (Detail Op)
   pull_evidence before own g =
       Nothing
@@ -129,7 +129,7 @@ module _ {Shape State Op Undo : Type 0} (o : Object Shape State Op Undo) (place 
       ArePulled before own entries (length entries) × IsStateOf s (before ++ shared_ops entries)
   SearchesPulls before own entries (Err x) = FailsPull before own entries x
 
-  -- the criteria of an APP after these operations, of a transaction with these own ones
+  -- The criteria of an APP after these operations, for a transaction with these own ones.
   abbrev pub app_facts : List ℕ → ℕ → Op → Option Tree → List (Item Op) → List Op → List (Type 0)
   app_facts ids id op body own before =
       Unit {0}
@@ -138,12 +138,12 @@ module _ {Shape State Op Undo : Type 0} (o : Object Shape State Op Undo) (place 
       ∷ IsAllowed o shape (before ++ op ∷ [])
       ∷ []
 
-  -- their evidence
+  -- The evidence for each criterion of an APP.
   abbrev pub app_evidence : ℕ → Op → List Op → List (Detail Op)
   app_evidence id op before =
       Nothing ∷ Nothing ∷ Nothing ∷ gives_behind o shape id before op ∷ []
 
-  -- the criteria of a PUSH after these entries, of a transaction whose own entries are pushed
+  -- The criteria of a PUSH after these entries, for a transaction whose own entries are pushed.
   abbrev pub push_facts : Name → Op → List (SharedEntry Op) → List (Type 0)
   push_facts t op G =
       Unit {0}
@@ -154,7 +154,7 @@ module _ {Shape State Op Undo : Type 0} (o : Object Shape State Op Undo) (place 
       ∷ IsAllowed o shape (shared_ops G ++ op ∷ [])
       ∷ []
 
-  -- their evidence
+  -- The evidence for each criterion of a PUSH.
   abbrev pub push_evidence : Name → ℕ → Op → List (SharedEntry Op) → List (Detail Op)
   push_evidence t id op G =
       Nothing
@@ -164,7 +164,7 @@ module _ {Shape State Op Undo : Type 0} (o : Object Shape State Op Undo) (place 
       ∷ gives_behind o shape id (shared_ops G) op
       ∷ []
 
-  -- what a search for the first violated criterion of the steps of a record returns
+  -- What the search for the first violated criterion of the steps of a record returns.
   abbrev pub SearchesRecord : Kept Shape Op → RunRecord Op → Option (Violation Op) → Type 0
   SearchesRecord v r x =
       Finds (record_asks Boosted (rules_of o shape) place (kept_summary v) r)

@@ -13,24 +13,24 @@ use Rattle.pp_summary.specs.declared.parts.OpenTx.{OpenTx}
 abbrev pub no_section : Front
 no_section = new_front []
 
--- 0, if there is no number
+-- The number, or 0 if there is none.
 abbrev pub number_or_zero : Option ℕ → ℕ
 number_or_zero None = zero
 number_or_zero (Some n) = n
 
--- how many of the commits at a place were seen: none if the place has no count
+-- How many of the commits at a place were seen: none if the place has no count.
 abbrev pub seen_of : List (ℕ × ℕ) → ℕ → ℕ
 seen_of entries q = number_or_zero (lookup (nat_eq q) entries)
 
--- the entry of an operation of t, with this mark
+-- The entry of an operation of t, with this mark.
 abbrev pub marked_entry : {Op : Type 0} → Mark → Name → Item Op → LocalEntry Op
 marked_entry m t p = record { id = p.id; owner = t; mark = m; op = p.op }
 
--- the own entry of an operation of t: it is pushed at once
+-- The own entry of an operation of t, which is pushed at once.
 abbrev pub own_entry : {Op : Type 0} → Name → Item Op → LocalEntry Op
 own_entry t p = marked_entry Pushed t p
 
--- the summary of an open transaction
+-- The summary of an open transaction.
 abbrev pub kept_open : {Op : Type 0} → Name → OpenTx (List (Item Op)) → OpenSummary Op
 kept_open t x =
     record {

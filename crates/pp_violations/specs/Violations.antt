@@ -27,7 +27,7 @@ module _ {Shape State Op Undo : Type 0} (o : Object Shape State Op Undo) (place 
         ≡ evidence o v.shape (after_from c (take x.offset (expand place Boosted f c r))) step
         (suc number)
 
-  -- So it is in each boosted configuration of which this is the brief.
+  -- The violation is that of the record in each boosted configuration with this brief.
   abbrev pub IsViolation : Held Shape Op → RunRecord Op → Violation Op → Type 0
   IsViolation v r x = (f : Front) (c : Config Op) → IsHeldOf o place v c → IsViolationFrom v r x f c
 
