@@ -63,7 +63,7 @@ pub fn add_commits<S: Placed>(
 }
 
 /// Whether the own operations at its place swap with the operation of the entry with this id.
-fn lets_pass<S: Parted>(own: &Own<S>, shared: &Shared<S>, id: u32) -> bool
+fn swaps_with_entry<S: Parted>(own: &Own<S>, shared: &Shared<S>, id: u32) -> bool
     requires ids { HaveOwnIds shared.now.1 }
     requires entries { HaveEntries shared.now.1 (id ∷ []) }
     ensures yes { IsTrue result →
@@ -81,7 +81,12 @@ fn lets_pass<S: Parted>(own: &Own<S>, shared: &Shared<S>, id: u32) -> bool
 }
 
 /// Whether the own operations swap with the operations of all these ids, from a position on.
-fn let_all_pass<S: Parted>(own: &Own<S>, shared: &Shared<S>, done: &[u32], from: usize) -> bool
+fn swaps_with_entries<S: Parted>(
+    own: &Own<S>,
+    shared: &Shared<S>,
+    done: &[u32],
+    from: usize,
+) -> bool
     requires ids { HaveOwnIds shared.now.1 }
     requires entries { HaveEntries shared.now.1 done.now }
     ensures yes { IsTrue result →
@@ -90,7 +95,7 @@ fn let_all_pass<S: Parted>(own: &Own<S>, shared: &Shared<S>, done: &[u32], from:
         StopsOne S.object S.place_of own.now shared.now.1 (drop from done.now) }
 {
     for k in from..done.len() {
-        if !lets_pass::<S>(own, shared, done[k]) {
+        if !swaps_with_entry::<S>(own, shared, done[k]) {
             return false;
         }
     }
@@ -99,7 +104,7 @@ fn let_all_pass<S: Parted>(own: &Own<S>, shared: &Shared<S>, done: &[u32], from:
 
 /// Whether the own operations at the place of an operation swap with each commit there that the
 /// transaction has not seen. It asks about no other places.
-pub fn passes_unseen<S: Parted>(
+pub fn swaps_with_unseen<S: Parted>(
     it: &OpenTx<Own<S>>,
     shared: &Shared<S>,
     commits: &Commits,
@@ -119,5 +124,5 @@ pub fn passes_unseen<S: Parted>(
     let Some(done) = commits.get(usize::from(place)) else {
         return true;
     };
-    let_all_pass::<S>(&it.own, shared, done.as_slice(), seen)
+    swaps_with_entries::<S>(&it.own, shared, done.as_slice(), seen)
 }

@@ -5,7 +5,7 @@ ghost use Rattle.pp_summary.specs.Held.{IsOpAsked, TakeCosts};
 ghost use Rattle.pp_summary.specs.Moving.{Answers};
 ghost use Rattle.pp_summary.specs.Shown.{KeepsQuick, shown};
 
-use crate::commits::passes_unseen;
+use crate::commits::swaps_with_unseen;
 use crate::open_tx::add_operation;
 use crate::own::Own;
 use crate::parts::Parts;
@@ -45,7 +45,7 @@ pub fn do_op<S: Parted, L: Ledger>(
     if !it.walk.can(&S::call(op)) {
         return Ok(false);
     }
-    if !passes_unseen::<S>(it, &parts.shared, &parts.commits, op) {
+    if !swaps_with_unseen::<S>(it, &parts.shared, &parts.commits, op) {
         return Ok(false);
     }
     if let Some(_) = parts.shared.blocking(tx, op) {

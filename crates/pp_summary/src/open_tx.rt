@@ -70,7 +70,7 @@ pub fn given_back<S: Placed>(walk: Walk, own: &[Item<S::Op>]) -> Walk
 }
 
 /// The transaction as it was when it began.
-pub fn anew<S: Parted>(alloc: Global, it: OpenTx<Own<S>>) -> OpenTx<Own<S>>
+pub fn begin_again<S: Parted>(alloc: Global, it: OpenTx<Own<S>>) -> OpenTx<Own<S>>
     requires { HasTaken it.walk (calls_of S.object it.own) }
     ensures thread { result.thread ≡ it.thread }
     ensures body { result.walk.body ≡ it.walk.body }

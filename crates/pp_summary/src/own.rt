@@ -29,7 +29,7 @@ fn stops<S: Parted>(item: &Item<S::Op>, op: &S::Op, part: Part) -> bool
 }
 
 /// Whether each of these operations at the place of another swaps with it.
-fn each_lets_pass<S: Parted>(own: &[Item<S::Op>], op: &S::Op) -> bool
+fn all_swap<S: Parted>(own: &[Item<S::Op>], op: &S::Op) -> bool
     ensures yes { IsTrue result → LetPass S.object S.place_of own.now op.now }
     ensures no { result ≡ false → Stops S.object S.place_of own.now op.now }
 {
@@ -160,7 +160,7 @@ impl<S: Parted> Own<S> {
     /// Whether the samples show that each operation at the place of another swaps with it, or no
     /// operation has its part. False decides nothing: there are no samples if the operations are
     /// few.
-    fn is_known_to_let(&self, op: &S::Op) -> bool
+    fn surely_swaps(&self, op: &S::Op) -> bool
         ensures { IsTrue result → LetPass S.object S.place_of self.now op.now }
     {
         let part = S::part(op);
@@ -182,9 +182,9 @@ impl<S: Parted> Own<S> {
         ensures yes { IsTrue result → LetPass S.object S.place_of self.now op.now }
         ensures no { result ≡ false → Stops S.object S.place_of self.now op.now }
     {
-        if self.is_known_to_let(op) {
+        if self.surely_swaps(op) {
             return true;
         }
-        each_lets_pass::<S>(self.items.as_slice(), op)
+        all_swap::<S>(self.items.as_slice(), op)
     }
 }

@@ -5,7 +5,7 @@ ghost use Rattle.pp_summary.specs.Moving.{Answers};
 ghost use Rattle.pp_summary.specs.Shown.{KeepsQuick, shown};
 ghost use Rattle.pp_summary.specs.Undoing.{undo_record};
 
-use crate::open_tx::anew;
+use crate::open_tx::begin_again;
 use crate::own::Own;
 use crate::parts::Parts;
 use crate::slots::{put_back, take_out};
@@ -51,7 +51,7 @@ fn undo_parts<S: Parted + TakesBack, L: Ledger>(
             parts.threads.swap_remove(&it.thread);
         }
         Undoing::Retry => {
-            put_back(&mut parts.slots, tx, anew::<S>(parts.alloc, it));
+            put_back(&mut parts.slots, tx, begin_again::<S>(parts.alloc, it));
         }
     }
     parts.count += 1;

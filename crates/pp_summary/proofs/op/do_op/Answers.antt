@@ -42,23 +42,23 @@ returns-then-not-can-clause-answers g c =
     let there = sym c.in-Some.ensures.value ∙ ap (λ s. Some s) (sym c.in-Some-as_mut.ensures.value) in
     ((λ k. unbegun g.S.Spec.object g.S.Placed.place_of apart c.args.parts.now c.requires.keeps c.args.tx.now c.in-Some-as_mut.it.now found c.args.id c.args.op.now c.can.result (subst (λ z. TellsBegins c.in-Some-as_mut.it.now.walk z c.can.result) c.call.ensures c.can.ensures) c.if-not-can.true k), ap (λ z. record now { slots = z }) (given_back _ (bytes_eq c.args.tx.now) c.args.parts.now.slots _ (Some c.in-Some-as_mut.it.now) there (c.get_mut.follows.holds (Some c.in-Some-as_mut.it.now))))
 
-pub passes_unseen-requires-clause-ids : goal.passes_unseen-requires-clause-ids
-passes_unseen-requires-clause-ids g c =
+pub swaps_with_unseen-requires-clause-ids : goal.swaps_with_unseen-requires-clause-ids
+swaps_with_unseen-requires-clause-ids g c =
     let apart = apart_of g.S.Spec.object g.S.Placed.place_of g.S.Placed.SameAt g.met.S.Placed.placed in
     own_ids g.S.Spec.object g.S.Placed.place_of apart c.args.parts.now c.requires.keeps
 
-pub passes_unseen-requires-clause-entries : goal.passes_unseen-requires-clause-entries
-passes_unseen-requires-clause-entries g c =
+pub swaps_with_unseen-requires-clause-entries : goal.swaps_with_unseen-requires-clause-entries
+swaps_with_unseen-requires-clause-entries g c =
     let apart = apart_of g.S.Spec.object g.S.Placed.place_of g.S.Placed.SameAt g.met.S.Placed.placed in
     have_entries g.S.Spec.object g.S.Placed.place_of apart c.args.parts.now c.requires.keeps
 
-pub returns-then-not-passes_unseen-clause-answers : goal.returns-then-not-passes_unseen-clause-answers
-returns-then-not-passes_unseen-clause-answers g c =
+pub returns-then-not-swaps_with_unseen-clause-answers : goal.returns-then-not-swaps_with_unseen-clause-answers
+returns-then-not-swaps_with_unseen-clause-answers g c =
     let apart = apart_of g.S.Spec.object g.S.Placed.place_of g.S.Placed.SameAt g.met.S.Placed.placed in
     let now : Kept g.row.S-Shape.Denot g.row.S-Op.Denot = c.args.parts.now in
     let found = sym (ap in_slot c.in-Some.ensures.value) ∙ sym c.in-Some-as_mut.ensures.value in
     let there = sym c.in-Some.ensures.value ∙ ap (λ s. Some s) (sym c.in-Some-as_mut.ensures.value) in
-    ((λ k. stopped g.S.Spec.object g.S.Placed.place_of apart c.args.parts.now c.requires.keeps c.args.tx.now c.in-Some-as_mut.it.now found c.args.id c.args.op.now g.met.S.Spec.lawful (c.passes_unseen.ensures.no c.if-not-passes_unseen.true) k), ap (λ z. record now { slots = z }) (given_back _ (bytes_eq c.args.tx.now) c.args.parts.now.slots _ (Some c.in-Some-as_mut.it.now) there (c.get_mut.follows.holds (Some c.in-Some-as_mut.it.now))))
+    ((λ k. stopped g.S.Spec.object g.S.Placed.place_of apart c.args.parts.now c.requires.keeps c.args.tx.now c.in-Some-as_mut.it.now found c.args.id c.args.op.now g.met.S.Spec.lawful (c.swaps_with_unseen.ensures.no c.if-not-swaps_with_unseen.true) k), ap (λ z. record now { slots = z }) (given_back _ (bytes_eq c.args.tx.now) c.args.parts.now.slots _ (Some c.in-Some-as_mut.it.now) there (c.get_mut.follows.holds (Some c.in-Some-as_mut.it.now))))
 
 pub returns-in-Some-blocking-clause-answers : goal.returns-in-Some-blocking-clause-answers
 returns-in-Some-blocking-clause-answers g c =
@@ -81,7 +81,7 @@ push-requires-clause-new g c =
     let apart = apart_of g.S.Spec.object g.S.Placed.place_of g.S.Placed.SameAt g.met.S.Placed.placed in
     let found = sym (ap in_slot c.in-Some.ensures.value) ∙ sym c.in-Some-as_mut.ensures.value in
     let is_good = good g.S.Spec.object g.S.Placed.place_of apart c.args.parts.now c.requires.keeps c.args.tx.now c.in-Some-as_mut.it.now found c.args.id c.args.op.now (sym c.contains.ensures ∙ c.if-contains.false) c.can.result
-    (subst (λ z. TellsBegins c.in-Some-as_mut.it.now.walk z c.can.result) c.call.ensures c.can.ensures) c.if-not-can.false (c.passes_unseen.ensures.yes c.if-not-passes_unseen.false) c.in_default-blocking.ensures.none (c.legal.ensures.0 c.if-not-legal.false) in
+    (subst (λ z. TellsBegins c.in-Some-as_mut.it.now.walk z c.can.result) c.call.ensures c.can.ensures) c.if-not-can.false (c.swaps_with_unseen.ensures.yes c.if-not-swaps_with_unseen.false) c.in_default-blocking.ensures.none (c.legal.ensures.0 c.if-not-legal.false) in
     is_new g.S.Spec.object g.S.Placed.place_of apart c.args.parts.now c.requires.keeps c.args.tx.now c.in-Some-as_mut.it.now found c.args.id c.args.op.now is_good
 
 pub insert-requires : goal.insert-requires
@@ -89,7 +89,7 @@ insert-requires g c =
     let apart = apart_of g.S.Spec.object g.S.Placed.place_of g.S.Placed.SameAt g.met.S.Placed.placed in
     let found = sym (ap in_slot c.in-Some.ensures.value) ∙ sym c.in-Some-as_mut.ensures.value in
     let is_good = good g.S.Spec.object g.S.Placed.place_of apart c.args.parts.now c.requires.keeps c.args.tx.now c.in-Some-as_mut.it.now found c.args.id c.args.op.now (sym c.contains.ensures ∙ c.if-contains.false) c.can.result
-    (subst (λ z. TellsBegins c.in-Some-as_mut.it.now.walk z c.can.result) c.call.ensures c.can.ensures) c.if-not-can.false (c.passes_unseen.ensures.yes c.if-not-passes_unseen.false) c.in_default-blocking.ensures.none (c.legal.ensures.0 c.if-not-legal.false) in
+    (subst (λ z. TellsBegins c.in-Some-as_mut.it.now.walk z c.can.result) c.call.ensures c.can.ensures) c.if-not-can.false (c.swaps_with_unseen.ensures.yes c.if-not-swaps_with_unseen.false) c.in_default-blocking.ensures.none (c.legal.ensures.0 c.if-not-legal.false) in
     unused g.S.Spec.object g.S.Placed.place_of apart c.args.parts.now c.requires.keeps c.args.tx.now c.in-Some-as_mut.it.now found c.args.id c.args.op.now is_good
 
 pub add_operation-requires : goal.add_operation-requires
@@ -97,7 +97,7 @@ add_operation-requires g c =
     let apart = apart_of g.S.Spec.object g.S.Placed.place_of g.S.Placed.SameAt g.met.S.Placed.placed in
     let found = sym (ap in_slot c.in-Some.ensures.value) ∙ sym c.in-Some-as_mut.ensures.value in
     let is_good = good g.S.Spec.object g.S.Placed.place_of apart c.args.parts.now c.requires.keeps c.args.tx.now c.in-Some-as_mut.it.now found c.args.id c.args.op.now (sym c.contains.ensures ∙ c.if-contains.false) c.can.result
-    (subst (λ z. TellsBegins c.in-Some-as_mut.it.now.walk z c.can.result) c.call.ensures c.can.ensures) c.if-not-can.false (c.passes_unseen.ensures.yes c.if-not-passes_unseen.false) c.in_default-blocking.ensures.none (c.legal.ensures.0 c.if-not-legal.false) in
+    (subst (λ z. TellsBegins c.in-Some-as_mut.it.now.walk z c.can.result) c.call.ensures c.can.ensures) c.if-not-can.false (c.swaps_with_unseen.ensures.yes c.if-not-swaps_with_unseen.false) c.in_default-blocking.ensures.none (c.legal.ensures.0 c.if-not-legal.false) in
     may_take g.S.Spec.object g.S.Placed.place_of apart c.args.parts.now c.requires.keeps c.args.tx.now c.in-Some-as_mut.it.now found c.args.id c.args.op.now is_good
 
 pub returns-clause-answers : goal.returns-clause-answers
@@ -105,7 +105,7 @@ returns-clause-answers g c =
     let apart = apart_of g.S.Spec.object g.S.Placed.place_of g.S.Placed.SameAt g.met.S.Placed.placed in
     let found = sym (ap in_slot c.in-Some.ensures.value) ∙ sym c.in-Some-as_mut.ensures.value in
     let is_good = good g.S.Spec.object g.S.Placed.place_of apart c.args.parts.now c.requires.keeps c.args.tx.now c.in-Some-as_mut.it.now found c.args.id c.args.op.now (sym c.contains.ensures ∙ c.if-contains.false) c.can.result
-    (subst (λ z. TellsBegins c.in-Some-as_mut.it.now.walk z c.can.result) c.call.ensures c.can.ensures) c.if-not-can.false (c.passes_unseen.ensures.yes c.if-not-passes_unseen.false) c.in_default-blocking.ensures.none (c.legal.ensures.0 c.if-not-legal.false) in (
+    (subst (λ z. TellsBegins c.in-Some-as_mut.it.now.walk z c.can.result) c.call.ensures c.can.ensures) c.if-not-can.false (c.swaps_with_unseen.ensures.yes c.if-not-swaps_with_unseen.false) c.in_default-blocking.ensures.none (c.legal.ensures.0 c.if-not-legal.false) in (
       is_good,
       grown_moves g.S.Spec.object g.S.Placed.place_of apart c.args.parts.now c.requires.keeps c.args.tx.now c.args.id c.args.op.now c.in-Some-as_mut.it.now c.add_operation.new.it _ is_good c.requires.asked.1 found c.in_ok-add_operation.ensures
           (c.get_mut.follows.holds (Some c.add_operation.new.it)).0 refl c.in_ok-push.ensures.ok c.in_ok-insert.ensures.ok refl refl refl refl,

@@ -37,8 +37,8 @@ returns-in_err-shared-clause-bound g c =
     let own = ap own_list (open_there g.S.Spec.object g.S.Placed.place_of apart c.args.parts c.requires.keeps c.args.tx.now c.in-Some.it found) in
     subst (λ l. c.take_back.new.ticks ≤ c.args.ticks.now + length l) (c.as_slice.ensures ∙ sym own) c.take_back.ensures.bound
 
-pub anew-requires : goal.anew-requires
-anew-requires g c =
+pub begin_again-requires : goal.begin_again-requires
+begin_again-requires g c =
     let apart = apart_of g.S.Spec.object g.S.Placed.place_of g.S.Placed.SameAt g.met.S.Placed.placed in
     let found = sym c.in-Some.ensures.found in
     (fine_of g.S.Spec.object g.S.Placed.place_of apart c.args.parts c.requires.keeps c.args.tx.now c.in-Some.it found).taken
@@ -82,9 +82,9 @@ returns-clause-answers g c =
             (aborted_moves g.S.Spec.object g.S.Placed.place_of apart c.args.parts c.requires.keeps c.args.tx.now c.in-Some.it found _ log good c.in-Some.ensures.emptied w.swap_remove.ensures.updates.0 refl refl refl refl refl)
         | in-Retry w ↦
             let good = undoes g.S.Spec.object g.S.Placed.place_of apart c.args.parts c.requires.keeps c.args.tx.now ways.Retry c.in-Some.it found in
-            let filled = w.put_back.ensures ∙ ap (λ z. set_value (bytes_eq c.args.tx.now) z (Some w.anew.result)) c.in-Some.ensures.emptied in
+            let filled = w.put_back.ensures ∙ ap (λ z. set_value (bytes_eq c.args.tx.now) z (Some w.begin_again.result)) c.in-Some.ensures.emptied in
             moves_from g.S.Spec.object g.S.Placed.place_of apart c.args.parts c.requires.keeps c.args.tx.now c.args.how ways.Retry c.match-how.parts _ w.in-Retry.is w.parts-is
-            (retried_moves g.S.Spec.object g.S.Placed.place_of apart c.args.parts c.requires.keeps c.args.tx.now c.in-Some.it found _ log good w.anew.result filled
-            w.anew.ensures.thread w.anew.ensures.body w.anew.ensures.taken w.anew.ensures.own w.anew.ensures.seen refl refl refl refl refl refl)
+            (retried_moves g.S.Spec.object g.S.Placed.place_of apart c.args.parts c.requires.keeps c.args.tx.now c.in-Some.it found _ log good w.begin_again.result filled
+            w.begin_again.ensures.thread w.begin_again.ensures.body w.begin_again.ensures.taken w.begin_again.ensures.own w.begin_again.ensures.seen refl refl refl refl refl refl)
       ],
     )

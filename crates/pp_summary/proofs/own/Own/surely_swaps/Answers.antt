@@ -5,7 +5,7 @@ use Rattle.pp_summary.specs.Passing.{LetPass}
 use Rattle.pp_log_shared.specs.Uncommitted.{same_part}
 use Rattle.pp_summary.proofs.Filtered.{none_alike}
 use Rattle.pp_summary.proofs.Known.{none_of_part, samples_let}
-use Rattle.pp_summary.proofs.own.Own.is_known_to_let.Goals as goal
+use Rattle.pp_summary.proofs.own.Own.surely_swaps.Goals as goal
 
 pub returns-then-not-may_have : goal.returns-then-not-may_have
 returns-then-not-may_have g c = λ _.

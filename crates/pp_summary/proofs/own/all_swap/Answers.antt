@@ -1,7 +1,7 @@
 use Rattle.std.proofs.Common.{◌≡◌, sym, subst, inl, inr, arith, ◌<◌, length}
 use Rattle.pp_kind.specs.Object.{Swaps}
 use Rattle.pp_summary.proofs.Items.{in_next, in_there}
-use Rattle.pp_summary.proofs.own.each_lets_pass.Goals as goal
+use Rattle.pp_summary.proofs.own.all_swap.Goals as goal
 
 pub returns-then-stops-clause-no : goal.returns-then-stops-clause-no
 returns-then-stops-clause-no g c = λ _.

@@ -1,6 +1,6 @@
 use Rattle.std.proofs.Common.{◌≡◌, ◌<◌, ◌≤◌, ◌∷◌, [], ℕ, Some, slice_get}
 use Rattle.pp_summary.specs.Passing.{LetAllPass}
-use Rattle.pp_summary.proofs.commits.let_all_pass.Given as goal
+use Rattle.pp_summary.proofs.commits.swaps_with_entries.Given as goal
 
 -- The own operations swap with those before position k.
 abbrev pub invariant-loop-k : goal.invariant-loop-k

@@ -1,7 +1,7 @@
 use Rattle.std.proofs.Common.{◌==◌, inl, refl, sym}
 use Rattle.pp_model.proofs.Finding.{place_there}
 use Rattle.pp_summary.proofs.Passing.{none_with_id, passes_alone, stops_alone, with_id}
-use Rattle.pp_summary.proofs.commits.lets_pass.Goals as goal
+use Rattle.pp_summary.proofs.commits.swaps_with_entry.Goals as goal
 
 pub unreachable-requires : goal.unreachable-requires
 unreachable-requires g c =

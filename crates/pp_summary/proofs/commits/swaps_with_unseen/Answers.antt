@@ -4,10 +4,10 @@ use Rattle.std.proofs.lemmas.Option.{slice_get_read}
 use Rattle.pp_summary.specs.Passing.{HaveEntries, StopsOne}
 use Rattle.pp_summary.specs.Shown.{ids_or_none, unseen_at}
 use Rattle.pp_summary.proofs.Passing.{unseen_is}
-use Rattle.pp_summary.proofs.commits.passes_unseen.Goals as goal
+use Rattle.pp_summary.proofs.commits.swaps_with_unseen.Goals as goal
 
-pub let_all_pass-requires-clause-entries : goal.let_all_pass-requires-clause-entries
-let_all_pass-requires-clause-entries g c =
+pub swaps_with_entries-requires-clause-entries : goal.swaps_with_entries-requires-clause-entries
+swaps_with_entries-requires-clause-entries g c =
     let q = c.place-place.result in
     let lists = c.deref.result.now in
     let done = c.in-Some-get.done.now in
@@ -32,4 +32,4 @@ returns-clause-no g c = λ h.
     subst (λ n. slice_get c.args.commits.now.items n ≡ Some done) c.from.ensures (subst (λ r. slice_get r i ≡ Some done) c.deref.ensures.value read) in
     let is = unseen_is q c.args.commits.now.items c.args.it.now.seen.entries c.in-Some.seen done (sym c.in-Some.ensures) there in
     subst (λ r. StopsOne g.S.Spec.object g.S.Placed.place_of c.args.it.now.own c.args.shared.now.1 r) (sym is ∙ ap (λ r. unseen_at r c.args.commits.now.items c.args.it.now.seen.entries) c.place-place.ensures)
-    (subst (λ r. StopsOne g.S.Spec.object g.S.Placed.place_of c.args.it.now.own c.args.shared.now.1 (drop c.in-Some.seen r)) c.as_slice.ensures (c.let_all_pass.ensures.no h))
+    (subst (λ r. StopsOne g.S.Spec.object g.S.Placed.place_of c.args.it.now.own c.args.shared.now.1 (drop c.in-Some.seen r)) c.as_slice.ensures (c.swaps_with_entries.ensures.no h))
