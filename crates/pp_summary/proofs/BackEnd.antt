@@ -17,10 +17,9 @@ use Rattle.pp_records.specs.Expansions.{taken_at, taken_out}
 use Rattle.pp_summary.specs.Brief.{without_owner}
 use Rattle.pp_summary.specs.Boosted.{PlacesSwap, BoostedBut}
 use Rattle.pp_summary.proofs.Append.{marked_last}
-use Rattle.pp_summary.proofs.Relog.{on_log-twice}
 use Rattle.pp_records.proofs.Ends.{after_append}
 use Rattle.pp_summary.proofs.Back.{Left, all_back, without_last}
-use Rattle.pp_laws_summary.proofs.Relog.{filter_within}
+use Rattle.pp_laws_summary.proofs.Relog.{filter_within, on_log-fuse}
 use Rattle.pp_laws_summary.proofs.BackAll.{but_last_snoc}
 
 -- Since c0, the log of t has become P, entries of t have left the shared log, and nothing else has changed.
@@ -45,7 +44,7 @@ module _ {Op State : Type 0} (O : Object Op State) (place : Op → ℕ) (apart :
         record {
           is = ap (λ (w : Config Op). record { names = w.names; ids = w.ids; opened = on_log t (without_local e.id) w.opened; shared = c.shared; done = w.done }) k.is
               ∙ ap (λ (w : List (Tx Op)). record { names = c0.names; ids = c0.ids; opened = w; shared = c.shared; done = c0.done })
-              (on_log-twice t (without_local e.id) (P ++ e ∷ []) c0.opened ∙ ap (λ (w : List (LocalEntry Op)). on_log t (λ l. w) c0.opened) (without_last P e other_ids));
+              (on_log-fuse t (without_local e.id) (λ l. P ++ e ∷ []) c0.opened ∙ ap (λ (w : List (LocalEntry Op)). on_log t (λ l. w) c0.opened) (without_last P e other_ids));
           others = k.others;
         }
 
@@ -54,8 +53,8 @@ module _ {Op State : Type 0} (O : Object Op State) (place : Op → ℕ) (apart :
         record {
           is = ap (λ (w : Config Op). record { names = w.names; ids = w.ids; opened = on_log t but_last (on_log t (set_mark e.id Unpushed) w.opened); shared = without_shared e.id c.shared; done = w.done }) k.is
               ∙ ap (λ (w : List (Tx Op)). record { names = c0.names; ids = c0.ids; opened = w; shared = without_shared e.id c.shared; done = c0.done })
-              (ap (λ (w : List (Tx Op)). on_log t but_last w) (on_log-twice t (set_mark e.id Unpushed) (P ++ e ∷ []) c0.opened)
-              ∙ on_log-twice t but_last (set_mark e.id Unpushed (P ++ e ∷ [])) c0.opened
+              (ap (λ (w : List (Tx Op)). on_log t but_last w) (on_log-fuse t (set_mark e.id Unpushed) (λ l. P ++ e ∷ []) c0.opened)
+              ∙ on_log-fuse t but_last (λ l. set_mark e.id Unpushed (P ++ e ∷ [])) c0.opened
               ∙ ap (λ (w : List (LocalEntry Op)). on_log t (λ l. w) c0.opened) (ap but_last (marked_last e.id Unpushed P e other_ids refl) ∙ but_last_snoc P (remark Unpushed e)));
           others = filter_within (λ (g : SharedEntry Op). not (g.owner =ⁿ t)) (λ (g : SharedEntry Op). not (g.id == e.id)) c.shared (λ g i n. elim (eqb_tells g.id e.id) [
             | inl r ↦ absurd (not_names g.owner t n (ap (λ (w : SharedEntry Op). w.owner) (mine g i r.1) ∙ nx))

@@ -25,14 +25,14 @@ use Rattle.pp_summary.specs.Boosted.{PlacesSwap}
 use Rattle.pp_summary.specs.Brief.{Brief, BriefGoodOp, BriefTx, brief_of}
 use Rattle.pp_summary.specs.Moving.{IsGood}
 use Rattle.pp_summary.specs.Passing.{HaveEntries, HaveOwnIds, LetAllPass, StopsOne}
-use Rattle.pp_summary.specs.Shown.{KeepsQuick, Kept, at, calls_of, as_held, in_slot, is_unseen, ids_behind, open_in, shown, shown_tx, threads_of, unseen_at}
+use Rattle.pp_summary.specs.Shown.{KeepsQuick, Kept, at, calls_of, as_held, in_slot, is_unseen, open_in, shown, shown_tx, threads_of, unseen_at}
 use Rattle.pp_summary.specs.declared.parts.OpenTx.{OpenTx}
 use Rattle.pp_summary.proofs.Filled.{begun_is}
-use Rattle.pp_summary.proofs.Items.{in_drop}
 use Rattle.pp_summary.proofs.Moving.{committed_there, fine_of, open_is, open_there}
 use Rattle.pp_summary.proofs.HeldOf.{distinct, done_stands, fits, new_id, own_stands}
 use Rattle.pp_summary.proofs.Unseen.{has_unseen}
 use Rattle.pp_laws_summary.proofs.Entries.{has_in, in_has}
+use Rattle.pp_summary.proofs.Passing.{in_behind}
 
 -- An id for which the test says that it was used is among the ids.
 pub used_in : (l : List ℕ) (id : ℕ) → list_any (λ i. id == i) l ≡ true → In id l
@@ -44,10 +44,6 @@ pub not_used : (l : List ℕ) (id : ℕ) → list_any (λ i. id == i) l ≡ fals
 not_used l id e i =
     let k = none_in (λ (j : ℕ). id == j) l e id i in
     let z : true ≡ false = sym (eq-eqb id id refl) ∙ k in cc
-
-in_behind : {A : Type 0} (m : Option ℕ) (l : List A) (a : A) → In a (ids_behind m l) → In a l
-in_behind None l a h = absurd h
-in_behind (Some k) l a h = let r = in_drop l k a h in stands_in l r.0 a r.2
 
 -- A slot that was changed has the new content.
 pub slot_stays : {A : Type 0} (t : Name) (es : List (Name × Option A)) (x : A) (s : Option A) → open_in t es ≡ Some x → lookup (λ n. t =ⁿ n) (set_value (λ n. t =ⁿ n) es s) ≡ Some s

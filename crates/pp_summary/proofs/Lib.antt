@@ -19,7 +19,6 @@ pub mod Starting
 pub mod Entries
 pub mod Front
 pub mod Lookups
-pub mod Relog
 pub mod Places
 pub mod StepCounts
 pub mod Pull

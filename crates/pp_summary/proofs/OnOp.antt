@@ -18,10 +18,9 @@ use Rattle.pp_model.proofs.Steps.{own_items-append}
 use Rattle.pp_summary.proofs.Front.{is_item}
 use Rattle.pp_summary.proofs.Refresh.{Refreshing, refreshed, Goal}
 use Rattle.pp_summary.proofs.Append.{Asked, asked_app, asked_push, app_holds, push_holds, marked_last, then_two, two_boosted}
-use Rattle.pp_summary.proofs.Relog.{on_log-twice}
 use Rattle.pp_records.proofs.Ends.{after_append, runs_append, runs_front, runs_back}
 use Rattle.pp_laws_summary.proofs.Entries.{is_there, entry_in}
-use Rattle.pp_laws_summary.proofs.Relog.{on_log-same}
+use Rattle.pp_laws_summary.proofs.Relog.{on_log-same, on_log-fuse}
 
 -- A boosted configuration is boosted but for one transaction.
 pub as_boosted_but : {Op State : Type 0} (O : Object Op State) (place : Op → ℕ) (t : Name) (c : Config Op) → Boosted O place c → BoostedBut O place t c
@@ -136,8 +135,8 @@ module _ {Op State : Type 0} (O : Object Op State) (place : Op → ℕ) (apart :
         ∙ ap (λ (w : List (Tx Op)). record { names = c.names; ids = id ∷ c.ids; opened = w; shared = c.shared ++ as_shared t false (record { id = id; op = op }) ∷ []; done = c.done }) logs
       where
         logs : on_log t (set_mark id Pushed) (on_log t (λ l. l ++ unpushed ∷ []) (on_log t (λ l. y.local) c.opened)) ≡ on_log t (λ l. y.local ++ now_pushed ∷ []) c.opened
-        logs = ap (λ (w : List (Tx Op)). on_log t (set_mark id Pushed) w) (on_log-twice t (λ l. l ++ unpushed ∷ []) y.local c.opened)
-            ∙ on_log-twice t (set_mark id Pushed) (y.local ++ unpushed ∷ []) c.opened
+        logs = ap (λ (w : List (Tx Op)). on_log t (set_mark id Pushed) w) (on_log-fuse t (λ l. l ++ unpushed ∷ []) (λ l. y.local) c.opened)
+            ∙ on_log-fuse t (set_mark id Pushed) (λ l. y.local ++ unpushed ∷ []) c.opened
             ∙ ap (λ (w : List (LocalEntry Op)). on_log t (λ l. w) c.opened)
             (marked_last id Pushed y.local unpushed (λ a i n. new_here h (subst (λ (w : ℕ). In w d.ids) n (r.boosted_but.sound.local_used y iy a i))) refl)
 

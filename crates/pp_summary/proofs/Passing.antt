@@ -1,7 +1,7 @@
 -- Which commits at a place are unseen, which entries with given ids swap with own operations, and the calls of the first items.
-use Rattle.std.specs.Prelude.{◌≡◌, ◌==◌, ◌<◌, ◌+◌, ℕ, nat_eq, true, false, List, [], ◌∷◌, ◌++◌, drop, length, map, position, slice_get, take, None, Some}
+use Rattle.std.specs.Prelude.{◌≡◌, ◌==◌, ◌||◌, ◌<◌, ◌+◌, ℕ, nat_eq, Bool, true, false, List, [], ◌∷◌, ◌++◌, drop, length, map, position, slice_get, take, Option, None, Some}
 use Rattle.std.specs.Map.{lookup}
-use Rattle.std.proofs.Common.{ap, subst, sym, ◌∙◌}
+use Rattle.std.proofs.Common.{refl, ap, subst, sym, ◌∙◌}
 use Rattle.std.proofs.lemmas.Bool.{eq-eqb, eqb-true}
 use Rattle.std.proofs.lemmas.List.{map-append}
 use Rattle.std.proofs.lemmas.Option.{same_Some}
@@ -10,12 +10,27 @@ use Rattle.pp_core.specs.declared.entry.Item.{Item}
 use Rattle.pp_core.specs.declared.entry.SharedEntry.{SharedEntry}
 use Rattle.pp_model.specs.Body.{Call}
 use Rattle.pp_model.specs.Lists.{In}
+use Rattle.pp_model.specs.Serial.{has_id}
 use Rattle.pp_model.proofs.Lists.{by_key}
 use Rattle.pp_model.proofs.Finding.{find_nowhere, place_none, placed, stands_in}
 use Rattle.pp_kind.specs.Object.{Object}
 use Rattle.pp_summary.specs.Passing.{HaveOwnIds, LetAllPass, LetPass, Stops, StopsOne}
 use Rattle.pp_summary.specs.Shown.{at, calls_of, ids_behind, ids_or_none, unseen_at}
-use Rattle.pp_summary.proofs.Items.{some_there, take_next}
+use Rattle.pp_summary.proofs.Items.{in_drop, some_there, take_next}
+
+-- An element after the first k is an element of the list.
+pub in_behind : {A : Type 0} (m : Option ℕ) (l : List A) (a : A) → In a (ids_behind m l) → In a l
+in_behind None l a h = absurd h
+in_behind (Some k) l a h = let r = in_drop l k a h in stands_in l r.0 a r.2
+
+-- An id is in a joined list exactly if it is in one of both lists.
+pub has_id_append : (i : ℕ) (l m : List ℕ) → has_id i (l ++ m) ≡ (has_id i l || has_id i m)
+has_id_append i [] m = refl
+has_id_append i (j ∷ l) m = ap (λ (b : Bool). (j == i) || b) (has_id_append i l m) ∙ assoc (j == i) (has_id i l) (has_id i m)
+  where
+    assoc : (a b c : Bool) → (a || (b || c)) ≡ ((a || b) || c)
+    assoc true b c = refl
+    assoc false b c = refl
 
 -- The unseen commits at a place are those after the ones that were seen.
 pub unseen_is : (q : ℕ) (commits : List (List ℕ)) (seen : List (ℕ × ℕ)) (k : ℕ) (l : List ℕ) →

@@ -14,12 +14,12 @@ use Rattle.pp_model.proofs.Logs.{found_tx, in_on_same}
 use Rattle.pp_model.proofs.Steps.{own_items-append}
 use Rattle.pp_records.specs.Expansions.{stands_in}
 use Rattle.pp_summary.specs.Boosted.{PlacesSwap, BoostedBut, IsDoneAt, IsOwnAt}
-use Rattle.pp_summary.proofs.Relog.{relogged, on_log-twice}
 use Rattle.pp_summary.proofs.Pull.{pull_holds, pull_swaps, pull_then, pull_boosted_but}
 use Rattle.std.proofs.lemmas.Bool.{and_parts}
 use Rattle.pp_model.specs.Config.{as_pulled}
 use Rattle.pp_laws_summary.proofs.Entries.{is_there, entry_in, stands_in-snoc, was_false, same_or_not}
 use Rattle.pp_laws_summary.proofs.Lookups.{tx_is}
+use Rattle.pp_laws_summary.proofs.Relog.{on_log-fuse, relogged}
 
 -- The entry is committed, at the place o, and not in L.
 abbrev pub is_missing : {Op : Type 0} → (Op → ℕ) → ℕ → List (LocalEntry Op) → SharedEntry Op → Bool
@@ -77,7 +77,7 @@ module _ {Op State : Type 0} (O : Object Op State) (place : Op → ℕ) (apart :
       record {
         boosted_but = b;
         lookup = tx_is O n b.sound t (relog more x) (in_on_same t more x c.opened f.0 f.1) f.1;
-        is = ap (λ (w : Config Op). record w { opened = on_log t more w.opened }) r.is ∙ ap (λ (w : List (Tx Op)). record c0 { opened = w }) (on_log-twice t more x.local c0.opened);
+        is = ap (λ (w : Config Op). record w { opened = on_log t more w.opened }) r.is ∙ ap (λ (w : List (Tx Op)). record c0 { opened = w }) (on_log-fuse t more (λ l. x.local) c0.opened);
         shared = r.shared;
         ids = r.ids;
         body = r.body;

@@ -15,15 +15,14 @@ use Rattle.pp_model.proofs.Commit.{commit, as_committed}
 use Rattle.pp_model.proofs.Lists.{by_key, from_filter, from_map, in_filter, in_map}
 use Rattle.pp_model.proofs.Names.{names_tell, names_not}
 use Rattle.pp_model.proofs.Trace.{map_same}
-use Rattle.pp_model.proofs.Finding.{stands_in}
 use Rattle.pp_summary.specs.Brief.{is_met, shared_ids, any_at, without_owner}
 use Rattle.pp_summary.specs.Shown.{at, ids_at, ids_behind, is_unseen, items_at, unseen, unseen_at}
 use Rattle.pp_summary.proofs.Briefs.{differ}
-use Rattle.pp_summary.proofs.Items.{in_drop}
 use Rattle.pp_summary.proofs.OnCommit.{commit_rest}
 use Rattle.pp_laws_summary.proofs.Entries.{has_in, in_has}
 use Rattle.pp_laws_summary.proofs.Relog.{filter_map, filter_none, filter_same, filter_within, map_map, same_bool}
 use Rattle.std.proofs.Math.Bool.{and-false, or-false}
+use Rattle.pp_summary.proofs.Passing.{has_id_append, in_behind}
 
 module _ {Op : Type 0} (place : Op → ℕ) where
   -- The id of an entry is among the unseen ids exactly if the entry is unseen.
@@ -81,14 +80,6 @@ module _ {Op : Type 0} (place : Op → ℕ) where
           and_true_right true = refl
           and_true_right false = refl
 
-  has_more : (i : ℕ) (l m : List ℕ) → has_id i (l ++ m) ≡ (has_id i l || has_id i m)
-  has_more i [] m = refl
-  has_more i (j ∷ l) m = ap (λ (b : Bool). (j == i) || b) (has_more i l m) ∙ assoc (j == i) (has_id i l) (has_id i m)
-    where
-      assoc : (a b c : Bool) → (a || (b || c)) ≡ ((a || b) || c)
-      assoc true b c = refl
-      assoc false b c = refl
-
   -- The transaction t commits its own operations.
   module _ (G : List (SharedEntry Op)) (commits later : List (List ℕ)) (seen : List (ℕ × ℕ)) (t : Name) (own mine : List (Item Op))
       (d : (g h : SharedEntry Op) → Before g h G → g.id ≡ h.id → ⊥)
@@ -98,17 +89,13 @@ module _ {Op : Type 0} (place : Op → ℕ) where
       (within : (q k : ℕ) → lookup (nat_eq q) seen ≡ Some k → k ≤ length (at q commits))
       (grows : (q : ℕ) → at q later ≡ at q commits ++ ids_at place q mine)
       (done : (q id : ℕ) → In id (at q commits) → (g : SharedEntry Op) × In g G × (g.committed ≡ true) × (g.id ≡ id)) where
-    in_behind : {A : Type 0} (m : Option ℕ) (l : List A) (a : A) → In a (ids_behind m l) → In a l
-    in_behind None l a h = absurd h
-    in_behind (Some k) l a h = let r = in_drop l k a h in stands_in l r.0 a r.2
-
     behind_more : (q : ℕ) (m : Option ℕ) → lookup (nat_eq q) seen ≡ m → (i : ℕ) →
         has_id i (ids_behind m (at q later)) ≡ (has_id i (ids_behind m (at q commits)) || (is_some m && has_id i (ids_at place q mine)))
     behind_more q None e i = refl
     behind_more q (Some k) e i =
         ap (λ l. has_id i (drop k l)) (grows q)
         ∙ ap (λ l. has_id i l) (drop-append-le k (at q commits) (ids_at place q mine) (within q k e))
-        ∙ has_more i (drop k (at q commits)) (ids_at place q mine)
+        ∙ has_id_append i (drop k (at q commits)) (ids_at place q mine)
 
     -- The ids of the operations of t are those of its entries, and of no others.
     is_mine : (g : SharedEntry Op) → In g G → has_id g.id (ids_at place (place g.op) mine) ≡ (g.owner =ⁿ t)

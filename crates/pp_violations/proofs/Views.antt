@@ -16,6 +16,7 @@ use Rattle.pp_laws_summary.proofs.BackAll.{eqb_turned}
 use Rattle.pp_summary.specs.Shown.{items_at}
 use Rattle.pp_summary.proofs.Committed.{serial_more}
 use Rattle.pp_summary.proofs.Items.{take_next}
+use Rattle.pp_summary.proofs.Passing.{has_id_append}
 
 -- Filtering the first i + 1 elements is filtering the first i, with the next one at the end if it passes.
 pub filter_next : {A : Type 0} (test : A → Bool) (l : List A) (i : ℕ) (e : A) → i < length l → e ≡ get_or l i e → filter test (take (i + 1) l) ≡ filter test (take i l) ++ cond (test e) (e ∷ []) []
@@ -49,17 +50,9 @@ or_last true b = refl
 or_last false true = refl
 or_last false false = refl
 
-has_append : (j : ℕ) (a b : List ℕ) → has_id j (a ++ b) ≡ (has_id j a || has_id j b)
-has_append j [] b = refl
-has_append j (i ∷ a) b = by (i == j) (has_append j a b)
-  where
-    by : (c : Bool) → has_id j (a ++ b) ≡ (has_id j a || has_id j b) → (c || has_id j (a ++ b)) ≡ ((c || has_id j a) || has_id j b)
-    by true k = refl
-    by false k = k
-
 -- An id is among the first i + 1 ids if it is among the first i or the next one.
 pub has_next : (j : ℕ) (l : List ℕ) (i e : ℕ) → i < length l → e ≡ get_or l i e → has_id j (take (i + 1) l) ≡ (has_id j (take i l) || (e == j))
-has_next j l i e lt is = ap (λ (w : List ℕ). has_id j w) (take_next l i e lt is) ∙ has_append j (take i l) (e ∷ []) ∙ or_last (has_id j (take i l)) (e == j)
+has_next j l i e lt is = ap (λ (w : List ℕ). has_id j w) (take_next l i e lt is) ∙ has_id_append j (take i l) (e ∷ []) ∙ or_last (has_id j (take i l)) (e == j)
 
 -- An id is in a list with one more id if it is in the list or is that id.
 pub any_added : (j id : ℕ) (l : List ℕ) → list_any (λ i. j == i) (l ++ id ∷ []) ≡ (list_any (λ i. j == i) l || (id == j))
