@@ -87,4 +87,5 @@ ends list values i total le so_far =
     rw (drop_all i values le) (ap (λ (l : List ℕ). Some l) (append-nil list)) in
     sym so_far ∙ one
 
+-- The rules of a walk over the numbers of an array.
 pub ruleset walk = (begins, goes_on, stops, ends)

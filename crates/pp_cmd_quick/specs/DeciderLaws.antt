@@ -37,6 +37,7 @@ use Rattle.pp_cmd_quick.specs.Taking.{AreGoodBehind, quick_judging}
 
 -- ---- the fault
 
+-- The only style that `is_boosted` takes is the boosted one.
 pub boosted_is : (s : Style) → is_boosted s ≡ true → s ≡ styles.Boosted
 boosted_is styles.Rules h = absurd (cc)
 boosted_is styles.Boosted h = refl
@@ -122,6 +123,7 @@ wider_most header rs more old new most tried k =
     (add_le (start_at_most (start_of header.what)) (records_most place_of B f.0)
     (records_most place_of B tried) f.2)
 
+-- A bound on the cost of a scan is one on the cost of a wider scan.
 pub most_widens : (sc wider : InputScan) (old new : ℕ) → Widens sc wider → RecordsCostAtMost sc old
     new → RecordsCostAtMost wider old new
 most_widens sc wider old new w most = by sc.header refl most
@@ -203,6 +205,7 @@ none_fails header rs line all (inr k) =
 
 -- ---- the laws
 
+-- What the summary as a judge says of runs has the laws of judging.
 pub quick_laws : JudgingLaws quick_judging
 quick_laws = record {
   not_both = λ h rs judge failed good bad. none_fails h rs failed.line

@@ -36,6 +36,7 @@ IsSameDecision (reports.StartRejected line criterion) decision = decision ≡ Re
 IsSameDecision (reports.StepRejected number line criterion before step) decision =
     decision ≡ Rejects line
 
+-- The law of what `quick` decides.
 pub record DecisionLaw : Type 0 where
   -- An input has at most one status and one text.
   pub one : (bytes : List ℕ) (s s' : Status) (t t' : List ℕ) → IsQuick bytes s t →

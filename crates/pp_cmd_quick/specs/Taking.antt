@@ -50,6 +50,7 @@ pub record AreGood (sc : InputScan) (tally : Tally) (quick : Held (List Kind) Op
   pub follows : IsTallied sc tally
   pub good : AreGoodBehind tally.header sc.records quick
 
+-- The start or a record of a scan failed on this line.
 pub record HasFailed (sc : InputScan) (tally : Tally) (line : ℕ) : Type 0 where
   pub follows : IsTallied sc tally
   pub style : tally.header.style ≡ Boosted

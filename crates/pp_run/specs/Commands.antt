@@ -68,6 +68,7 @@ pub record CertifyPromise (o : Outcome) : Type 0 where
   pub least : IsDecided o.status → OfItsInput o λ bytes.
       CostsAtLeast o.status (scan bytes) o.before o.after
 
+-- What `expand` promises.
 pub record ExpandPromise (o : Outcome) : Type 0 where
   pub prints : PrintsJust IsExpanded o
   pub exact : IsPrinted o.status → OfItsInput o λ bytes. IsExact bytes o.status
@@ -106,6 +107,7 @@ pub record JudgePromise (o : Outcome) : Type 0 where
   pub least : IsDecided o.status → OfItsInput o λ bytes.
       JudgeCostsAtLeast o.status (judge_scan bytes) o.before o.after
 
+-- What `quick` promises.
 pub record QuickPromise (o : Outcome) : Type 0 where
   pub prints : PrintsJust IsQuick o
   -- An accepted run is serializable, also if it has too many steps for `certify`.
@@ -114,6 +116,7 @@ pub record QuickPromise (o : Outcome) : Type 0 where
   pub least : IsDecided o.status → OfItsInput o λ bytes.
       QuickCostsAtLeast o.status (scan bytes) o.before o.after
 
+-- What `swaps` promises.
 pub record SwapsPromise (o : Outcome) : Type 0 where
   pub prints : PrintsJust IsSwaps o
   pub accepted : o.status ≡ statuses.Accepted → OfItsInput o λ bytes. IsSerializable (scan bytes)
@@ -125,6 +128,7 @@ pub record SwapsPromise (o : Outcome) : Type 0 where
   pub least : IsDecided o.status → OfItsInput o λ bytes.
       StepsCostAtLeast o.status (scan bytes) o.before o.after
 
+-- What `recheck` promises.
 pub record RecheckPromise (o : Outcome) : Type 0 where
   pub prints : PrintsJust IsRecheck o
   -- The operations that an accepted certificate shows are allowed, and lead to the printed state.
@@ -133,6 +137,7 @@ pub record RecheckPromise (o : Outcome) : Type 0 where
   pub least : o.status ≡ statuses.Accepted → OfItsInput o λ bytes.
       CheckCostsAtLeast bytes o.before o.after
 
+-- What `views` promises.
 pub record ViewsPromise (o : Outcome) : Type 0 where
   pub prints : PrintsJust IsViews o
   pub accepted : o.status ≡ statuses.Accepted → OfItsInput o λ bytes. IsSerializable (scan bytes)

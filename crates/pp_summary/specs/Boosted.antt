@@ -87,6 +87,7 @@ Anchored {Op} place l =
     (p : LocalEntry Op) → In p l → p.mark ≡ Pulled →
     (a : LocalEntry Op) × IsOwnAt place (place p.op) l a
 
+-- A boosted configuration: it is sound, and each local log follows the shared log and is anchored.
 pub record Boosted {Op State : Type 0} (O : Object Op State) (place : Op → ℕ) (c : Config Op) :
     Type 0 where
   pub sound : Sound O c

@@ -23,6 +23,7 @@ pub record BriefTx (Op : Type 0) : Type 0 where
   pub own : List (Item Op)
   pub missed : List ℕ
 
+-- The brief of a configuration, which has no local logs.
 pub record Brief (Op : Type 0) : Type 0 where
   pub names : List Name
   pub ids : List ℕ

@@ -36,6 +36,7 @@ IsRejectedOn {Op} ss line v =
     (i n : ℕ) × (v ≡ Rejected (suc i) (suc n))
     × ((s : Lined (Step Op)) × (slice_get ss i ≡ Some s) × (s.line ≡ line))
 
+-- The law of which record of a run fails.
 pub record FailureLaw {F R Op State : Type 0} (O : Object Op State) (T : Translation F R Op) :
     Type 0 where
   -- At most one record fails, at one position. None fails if each step meets its criteria. One

@@ -42,6 +42,7 @@ is_op (records.DropSource t source) = false
 abbrev pub count_ops : {Op : Type 0} → List (RunRecord Op) → ℕ
 count_ops rs = length (filter is_op rs)
 
+-- The law of which records of a run are tried, and what they cost.
 pub record SumLaw {Op State : Type 0} (O : Object Op State) (place : Op → ℕ) : Type 0 where
   -- There is exactly one list of tried records.
   pub one : (B : Brief Op) (rs a b : List (RunRecord Op)) → AreTried O place B rs a →
