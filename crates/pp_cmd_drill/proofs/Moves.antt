@@ -11,11 +11,6 @@ use Rattle.pp_model.proofs.Lists.{in_cases, before_in_second}
 use Rattle.pp_model.proofs.Names.{eq-names}
 use Rattle.pp_model.proofs.Alone.{there_is}
 
--- Each element of joined lists has a property if each of both lists has it.
-pub each_join : {A : Type 0} (P : A → Type 0) (xs ys : List A) → Each P xs → Each P ys → Each P (xs ++ ys)
-each_join P [] ys h k = k
-each_join P (x ∷ xs) ys h k = (h.0, each_join P xs ys h.1 k)
-
 -- If each element of a list has a property, an element that is in the list has it.
 pub each_in : {A : Type 0} (P : A → Type 0) (xs : List A) (x : A) → Each P xs → In x xs → P x
 each_in P [] x h i = absurd i

@@ -15,8 +15,9 @@ use Rattle.pp_kind_memory.specs.Values.{written}
 use Rattle.pp_objects.specs.declared.act.Op.{Op}
 use Rattle.pp_cmd_drill.specs.Drill.{name_of, first_thread, second_thread, id_of, read, write, add, ask, app, push, first_apps}
 use Rattle.pp_cmd_drill.specs.Law.{drill_objects, states_at}
-use Rattle.pp_cmd_drill.proofs.Moves.{conf, open_tx, own_entry, shared_entry, LeadsTo, Log, Others, Apart, Settled, MayCommit, each_join, each_in, each_as, app_step, push_step, cmt_step}
+use Rattle.pp_cmd_drill.proofs.Moves.{conf, open_tx, own_entry, shared_entry, LeadsTo, Log, Others, Apart, Settled, MayCommit, each_in, each_as, app_step, push_step, cmt_step}
 use Rattle.pp_cmd_drill.proofs.Acts.{first_allowed, both_allowed, value_is, adds_swap, asks_swap, read_add_swap, add_write_swap, read_ask_swap, write_ask_swap, ask_add_swap, add_ask_swap}
+use Rattle.pp_judge.proofs.Stating.{each_append}
 
 -- All ids are below n.
 abbrev pub Under : ℕ → List ℕ → Type 0
@@ -219,7 +220,7 @@ module _ (p x a b : ℕ) (ns : List Name) (is : List ℕ) (G : List (SharedEntry
       (own_may _ (name_of b) (id_of b 1) (add b), (own_may _ (name_of b) (id_of b 2) (ask b), tt)) refl second_commits
       (cmt_step drill_objects ns is (name_of a) first_thread [] [] (D ++ done_second b ∷ []) tt tt
       (seen ++ A) (items_first p a) H (G ++ shared_both p a b true true) ss e
-      (each_join (MayCommit H) seen A (may_still G (shared_both p a b false true) seen view.may)
+      (each_append (MayCommit H) seen A (may_still G (shared_both p a b false true) seen view.may)
       (own_may H (name_of a) (id_of a 1) (read p), (own_may H (name_of a) (id_of a 2) (write (suc p)), (own_may H (name_of a) (id_of a 3) (add a), (own_may H (name_of a) (id_of a 4) (ask a), tt)))))
       (own_items-append seen A ∙ ap (λ (w : List (Item Op)). w ++ items_first p a) view.none)
       first_commits
@@ -274,7 +275,7 @@ module _ (p x a : ℕ) (ns : List Name) (is : List ℕ) (G : List (SharedEntry O
       let own_may : (i : ℕ) (op : Op) → MayCommit H (own_entry (name_of a) Pushed i op) = λ i op. ((λ k. refl), (λ k. absurd (cc))) in
       cmt_step drill_objects ns is (name_of a) first_thread [] [] D tt tt
       (seen ++ A) (items_first p a) H (G ++ shared_first p a true) ss e
-      (each_join (MayCommit H) seen A (may_still G (shared_first p a false) seen view.may)
+      (each_append (MayCommit H) seen A (may_still G (shared_first p a false) seen view.may)
       (own_may (id_of a 1) (read p), (own_may (id_of a 2) (write (suc p)), (own_may (id_of a 3) (add a), (own_may (id_of a 4) (ask a), tt)))))
       (own_items-append seen A ∙ ap (λ (w : List (Item Op)). w ++ items_first p a) view.none)
       alone_commits

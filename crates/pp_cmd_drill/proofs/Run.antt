@@ -16,9 +16,10 @@ use Rattle.pp_kind_memory.specs.Values.{written}
 use Rattle.pp_objects.specs.declared.act.Op.{Op}
 use Rattle.pp_cmd_drill.specs.Drill.{name_of, first_thread, second_thread, id_of, read, write, add, ask, app, pulls, first_apps, endings, ending, pair, unpaired, pairs}
 use Rattle.pp_cmd_drill.specs.Law.{drill_objects, states_at, sum_to}
-use Rattle.pp_cmd_drill.proofs.Moves.{conf, open_tx, own_entry, shared_entry, LeadsTo, Log, Others, each_join, each_in, each_as, nothing_more, in_turn, longer, begin_step, app_step, pull_step}
+use Rattle.pp_cmd_drill.proofs.Moves.{conf, open_tx, own_entry, shared_entry, LeadsTo, Log, Others, each_in, each_as, nothing_more, in_turn, longer, begin_step, app_step, pull_step}
 use Rattle.pp_cmd_drill.proofs.Acts.{second_allowed, both_allowed, in_order_allowed, first_allowed, value_is, at_start, after_both, after_order, after_first, of_both, of_first, in_order}
 use Rattle.pp_cmd_drill.proofs.Pair.{Under, fresh, under_next, not_eqb, not_name, two_ids, AllCommitted, View, own_first, own_second, done_first, done_second, shared_first, shared_both, ids_first, ids_second, apps_lead, pushes_lead, commits_lead, unpaired_pushes_lead, unpaired_commit_leads}
+use Rattle.pp_judge.proofs.Stating.{each_append}
 
 -- The names that p pairs of transactions used.
 abbrev pub names_after : ℕ → List Name
@@ -73,13 +74,13 @@ SharedUnder n G = Each (λ g. g.id < n) G
 shared_under : (p : ℕ) → SharedUnder (id_of (2 * p + 1) 1) (shared_after p)
 shared_under zero = tt
 shared_under (suc p) =
-    each_join (λ g. g.id < id_of (2 * suc p + 1) 1) (shared_after p) (shared_both p (2 * p + 1) (2 * p + 2) true true)
+    each_append (λ g. g.id < id_of (2 * suc p + 1) 1) (shared_after p) (shared_both p (2 * p + 1) (2 * p + 2) true true)
     (each_as (λ g. g.id < id_of (2 * p + 1) 1) (λ g. g.id < id_of (2 * suc p + 1) 1) (shared_after p) (λ g j. omega arith) (shared_under p))
     (omega arith, (omega arith, (omega arith, (omega arith, (omega arith, (omega arith, tt))))))
 
 all_after : (p : ℕ) → AllCommitted (shared_after p)
 all_after zero = tt
-all_after (suc p) = each_join (λ g. g.committed ≡ true) (shared_after p) (shared_both p (2 * p + 1) (2 * p + 2) true true) (all_after p) (refl, (refl, (refl, (refl, (refl, (refl, tt))))))
+all_after (suc p) = each_append (λ g. g.committed ≡ true) (shared_after p) (shared_both p (2 * p + 1) (2 * p + 2) true true) (all_after p) (refl, (refl, (refl, (refl, (refl, (refl, tt))))))
 
 -- The logs after p pairs.
 log_after : (p : ℕ) → Log drill_objects (shared_ops (shared_after p)) (states_at p (sum_to (2 * p)))

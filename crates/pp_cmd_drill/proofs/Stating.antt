@@ -24,7 +24,7 @@ use Rattle.pp_objects.specs.declared.act.Op.{Op}
 use Rattle.pp_cmd_drill.specs.Drill.{drill_catalog, drill_steps, name_of, first_thread, second_thread, id_of, pulls, first_apps, second_apps, endings, ending, pair, pairs, unpaired, left_over}
 use Rattle.pp_cmd_drill.specs.Text.{drill_header, IsReadBack}
 use Rattle.pp_cmd_drill.proofs.Lengths.{drill_length}
-use Rattle.pp_cmd_drill.proofs.Moves.{each_join}
+use Rattle.pp_judge.proofs.Stating.{each_append}
 
 -- Each of these steps can be stated.
 abbrev pub AreStatable : List (Step Op) → Type 0
@@ -111,9 +111,9 @@ pair_stated p a b e f h =
       (is_name a k, first_is_name, tt),
       (
         (is_name b h, second_is_name, tt),
-        each_join P (pulls p a) (first_apps p a ++ (second_apps b ++ endings a b)) (pulls_stated p a e k)
-            (each_join P (first_apps p a) (second_apps b ++ endings a b) (first_stated p a (omega arith) k)
-            (each_join P (second_apps b) (endings a b) (second_stated b h) (endings_stated a b k h))),
+        each_append P (pulls p a) (first_apps p a ++ (second_apps b ++ endings a b)) (pulls_stated p a e k)
+            (each_append P (first_apps p a) (second_apps b ++ endings a b) (first_stated p a (omega arith) k)
+            (each_append P (second_apps b) (endings a b) (second_stated b h) (endings_stated a b k h))),
       ),
     )
 
@@ -121,12 +121,12 @@ unpaired_stated : (p a : ℕ) → a ≡ 2 * p + 1 → a ≤ 20000 → AreStatabl
 unpaired_stated p a e h =
     let P = IsStatable drill_catalog in (
       (is_name a h, first_is_name, tt),
-      each_join P (pulls p a) (first_apps p a ++ ending a) (pulls_stated p a e h) (each_join P (first_apps p a) (ending a) (first_stated p a (omega arith) h) (ending_stated a h)),
+      each_append P (pulls p a) (first_apps p a ++ ending a) (pulls_stated p a e h) (each_append P (first_apps p a) (ending a) (first_stated p a (omega arith) h) (ending_stated a h)),
     )
 
 pairs_stated : (p : ℕ) → 2 * p ≤ 20000 → AreStatable (pairs p)
 pairs_stated zero h = tt
-pairs_stated (suc p) h = each_join (IsStatable drill_catalog) (pairs p) (pair p (2 * p + 1) (2 * p + 2)) (pairs_stated p (omega arith)) (pair_stated p (2 * p + 1) (2 * p + 2) refl refl (omega arith))
+pairs_stated (suc p) h = each_append (IsStatable drill_catalog) (pairs p) (pair p (2 * p + 1) (2 * p + 2)) (pairs_stated p (omega arith)) (pair_stated p (2 * p + 1) (2 * p + 2) refl refl (omega arith))
 
 left_stated : (r p : ℕ) → 2 * p + r ≤ 20000 → AreStatable (left_over r p)
 left_stated zero p h = tt
@@ -137,7 +137,7 @@ pub steps_stated : (n : ℕ) → n ≤ 20000 → AreStatable (drill_steps n)
 steps_stated n high =
     let q = n / 2 in
     let r = n % 2 in
-    each_join (IsStatable drill_catalog) (pairs q) (left_over r q) (pairs_stated q (omega arith)) (left_stated r q (omega arith))
+    each_append (IsStatable drill_catalog) (pairs q) (left_over r q) (pairs_stated q (omega arith)) (left_stated r q (omega arith))
 
 -- How many of the steps begin a transaction.
 abbrev pub begins : List (Step Op) → ℕ

@@ -1,7 +1,7 @@
 -- Proof machinery: an accepted input: its run, and its report.
 use Rattle.std.proofs.Common.{◌≡◌, ℕ, zero, suc, List, map, length, Option, None, Some, refl, subst}
 use Rattle.pp_core.specs.declared.status.Status.TheVariants as statuses
-use Rattle.pp_records.specs.Inputs.{Faulty, IsRunReport}
+use Rattle.pp_records.specs.Inputs.{IsRunReport}
 use Rattle.pp_records.specs.Runs.{Lined, bare}
 use Rattle.pp_format_read.specs.declared.header.Header.{Header}
 use Rattle.pp_model.specs.Config.{first}
@@ -10,12 +10,12 @@ use Rattle.pp_model.specs.Rules.{Accepted, Rejected, RunsFrom, StartMeets}
 use Rattle.pp_model.specs.Serial.{attempts, committed_tx, serial}
 use Rattle.pp_model.proofs.Verdict.{accepted_iff}
 use Rattle.pp_report.specs.Reports.{accepted_text}
-use Rattle.pp_input_reader.specs.declared.cause.Cause.{Cause}
 use Rattle.pp_judge.specs.Accepted.{HasRun}
 use Rattle.pp_judge.specs.Inputs.{IsFaultOf, scan}
 use Rattle.pp_judge.specs.Objects.{object_of, setting_of, start_of}
 use Rattle.pp_judge.specs.Reports.{IsCertified, IsTold, RunReport}
 use Rattle.pp_judge.specs.Scans.{InputScan}
+use Rattle.pp_judge.proofs.Concluding.{faulty_by}
 
 -- Each step of the run meets its criteria, and this is the report.
 pub record IsAcceptedRun {sc : InputScan} (own : HasRun sc) (text : List ℕ) : Type 0 where
@@ -37,12 +37,8 @@ ran sc (Some h) text report e (run, Rejected zero n, is, v, r) t =
 ran sc (Some h) text report e (run, Rejected (suc i) n, is, v, r) t =
     absurd (let told = subst (λ (w : RunReport). IsTold (Some h) w statuses.Accepted text) r.2 t in let e : statuses.Accepted ≡ statuses.Rejected = told.0 in cc)
 
-never_faulty : (o : Option (Lined Header)) (line : ℕ) (cause : Cause) (text : List ℕ) → IsTold o (Faulty line cause) statuses.Accepted text → ⊥
-never_faulty None line cause text t = let e : statuses.Accepted ≡ statuses.InputFault = t.0 in cc
-never_faulty (Some h) line cause text t = let e : statuses.Accepted ≡ statuses.InputFault = t.0 in cc
-
 -- An accepted input has no fault, and has such a run.
 pub accepted_run : (bytes text : List ℕ) → IsCertified bytes statuses.Accepted text → IsFaultOf (scan bytes) None × ((own : HasRun (scan bytes)) × IsAcceptedRun own text)
 accepted_run bytes text (report, (None, none, r), t) = (none, ran (scan bytes) (scan bytes).header text report refl r t)
 accepted_run bytes text (report, (Some f, is, r), t) =
-    absurd (never_faulty (scan bytes).header f.0 f.1 text (subst (λ (w : RunReport). IsTold (scan bytes).header w statuses.Accepted text) r t))
+    absurd (faulty_by (scan bytes).header f.0 f.1 text (subst (λ (w : RunReport). IsTold (scan bytes).header w statuses.Accepted text) r t))

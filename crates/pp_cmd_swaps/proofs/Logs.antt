@@ -1,6 +1,6 @@
 -- Proof machinery: the shared log of a run.
 use Rattle.std.specs.Prelude.{◌≡◌, ◌≢◌, ◌≤◌, ◌+◌, ◌*◌, ◌==◌, ◌⊎◌, ℕ, Bool, true, false, cond, IsTrue}
-use Rattle.std.specs.Prelude.{List, [], ◌∷◌, ◌++◌, map, filter, length, not, Option, None, Some}
+use Rattle.std.specs.Prelude.{List, [], ◌∷◌, ◌++◌, map, length, not, Option, None, Some}
 use Rattle.std.proofs.Common.{refl, sym, ap, subst, ◌∙◌, arith, length-append}
 use Rattle.std.proofs.lemmas.List.{length-map}
 use mathlib.Core.Logic.{inl, inr}
@@ -20,6 +20,8 @@ use Rattle.pp_model.proofs.Lists.{before_from_map, each_from, from_filter, from_
 use Rattle.pp_model.proofs.Lists.{in_left, in_right, split_at}
 use Rattle.pp_model.proofs.Logs.{found_mark, found_other, found_tx}
 use Rattle.pp_cmd_swaps.specs.Logs.{AppliesOnly, ArePlain, LogLaw, start_items}
+use Rattle.pp_machine.proofs.Cuts.{filter_short}
+use Rattle.pp_model.proofs.Local.{shared_used}
 
 -- ---- what is in the logs
 
@@ -158,14 +160,6 @@ module _ {Op : Type 0} (plain : Item Op → Bool) where
 
 -- ---- how long the shared log is
 
-filter_short : {A : Type 0} (test : A → Bool) (xs : List A) → length (filter test xs) ≤ length xs
-filter_short test [] = omega arith
-filter_short {A} test (x ∷ xs) = at (test x) (filter_short test xs)
-  where
-    at : (b : Bool) → length (filter test xs) ≤ length xs → length (cond b (x ∷ filter test xs) (filter test xs)) ≤ length (x ∷ xs)
-    at true h = omega arith
-    at false h = omega arith
-
 -- How many ids were used and how many entries are in the shared log, together.
 abbrev both : {Op : Type 0} → Config Op → ℕ
 both c = length c.ids + length c.shared
@@ -220,23 +214,11 @@ no_longer (x ∷ xs) ys distinct within =
         at (inr (inr b)) = in_right i front back b
 
 module _ {Op State : Type 0} (O : Object Op State) (c : Config Op) (sound : Sound O c) where
-  -- Each entry has an id that was used.
-  known : (g : SharedEntry Op) → In g c.shared → In g.id c.ids
-  known g i = by g.committed refl
-    where
-      by : (b : Bool) → g.committed ≡ b → In g.id c.ids
-      by true is =
-          let f = sound.committed_from g i is in
-          subst (λ (z : SharedEntry Op). In z.id c.ids) (sym f.4) (sound.done_used f.0 f.1 f.2 f.3)
-      by false is =
-          let f = sound.uncommitted_from g i is in
-          subst (λ (z : SharedEntry Op). In z.id c.ids) (sym f.5) (sound.local_used f.0 f.1 f.2 f.3)
-
   abbrev id_of : SharedEntry Op → ℕ
   id_of g = g.id
 
   used : (i : ℕ) → In i (map id_of c.shared) → In i c.ids
-  used i k = let f = from_map id_of i c.shared k in subst (λ n. In n c.ids) (sym f.2) (known f.0 f.1)
+  used i k = let f = from_map id_of i c.shared k in subst (λ n. In n c.ids) (sym f.2) (shared_used O c sound f.0 f.1)
 
   apart : (i j : ℕ) → Before i j (map id_of c.shared) → i ≢ j
   apart i j b is = let f = before_from_map id_of i j c.shared b in sound.shared_ids f.0 f.1 f.2 (sym f.3 ∙ is ∙ f.4)

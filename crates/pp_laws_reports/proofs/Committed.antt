@@ -12,12 +12,9 @@ use Rattle.pp_model.specs.Serial.{Attempt, applied_items, attempt_of, attempts, 
 use Rattle.pp_model.specs.Serial.{has_id, own_of, start_attempts, unapplied_ids}
 use Rattle.pp_objects.specs.declared.act.Op.{Op}
 use Rattle.pp_laws_reports.specs.Readable.{ArePrintable, IsPrintable}
+use Rattle.pp_judge.proofs.Stating.{each_append}
 
 module _ {A : Type 0} (P : A → Type 0) where
-  each_append : (xs ys : List A) → Each P xs → Each P ys → Each P (xs ++ ys)
-  each_append [] ys h k = k
-  each_append (x ∷ xs) ys h k = (h.0, each_append xs ys h.1 k)
-
   each_cond : (b : Bool) (x : A) (xs : List A) → P x → Each P xs → Each P (cond b (x ∷ xs) xs)
   each_cond true x xs h k = (h, k)
   each_cond false x xs h k = k

@@ -9,7 +9,8 @@ use Rattle.std.specs.Fmt.{digits, digits_onto, digit_glyph, signed_decimal}
 use Rattle.pp_model.specs.Lists.{Each}
 use Rattle.pp_kind.specs.Numbers.{in_range}
 use Rattle.pp_text.specs.Texts.{arguments_bytes, more_bytes}
-use Rattle.pp_laws_reports.proofs.Splits.{Only, Stops, both, only_append, only_weaker, split}
+use Rattle.pp_laws_reports.proofs.Splits.{Only, Stops, only_append, only_weaker, split}
+use Rattle.std.proofs.lemmas.Bool.{and_parts}
 
 -- a digit, or a byte of a number with its sign
 abbrev pub is_digit : ℕ → Bool
@@ -57,11 +58,11 @@ most = pos 1_000_000_000_000_000_000
 -- A number in the range of records has a magnitude below 2 to the power of 63.
 pub range_mag : (z : ℤ) → IsTrue (in_range z) → mag z < 2 ^ 63
 range_mag (pos n) h =
-    let ends = both (int_le least (pos n)) (int_le (pos n) most) h in
+    let ends = and_parts (int_le least (pos n)) (int_le (pos n) most) h in
     let le : nat_le n 1_000_000_000_000_000_000 ≡ true = ends.1 in
     grind (arith, nat_tests)
 range_mag (negsuc n) h =
-    let ends = both (int_le least (negsuc n)) (int_le (negsuc n) most) h in
+    let ends = and_parts (int_le least (negsuc n)) (int_le (negsuc n) most) h in
     let le : nat_le n 999_999_999_999_999_999 ≡ true = ends.0 in
     grind (arith, nat_tests)
 

@@ -22,9 +22,10 @@ use Rattle.pp_objects.specs.declared.act.Op.{Op}
 use Rattle.pp_objects.specs.laws.One.{one_lawful}
 use Rattle.pp_kind.specs.Numbers.{has_ranged_arguments, in_range, is_ranged_answer}
 use Rattle.pp_text.specs.Texts.{answer_bytes, arguments_bytes, arguments_in, name_at, op_bytes}
-use Rattle.pp_laws_reports.proofs.Splits.{Only, apart, both, only_all, only_append, only_other, other_than, split, split_last}
+use Rattle.pp_laws_reports.proofs.Splits.{Only, apart, only_all, only_append, only_other, other_than, split, split_last}
 use Rattle.pp_laws_reports.proofs.Numbers.{InRange, arguments_only, is_arguments_byte, is_number_byte, same_arguments, same_number, signed_only}
 use Rattle.pp_laws_reports.proofs.Acts.{method_of, same_act, same_method}
+use Rattle.std.proofs.lemmas.Bool.{and_parts}
 
 -- ---- the words of methods
 
@@ -109,13 +110,13 @@ take_ranged (suc n) [] h = tt
 take_ranged (suc n) (x ∷ ns) h = (h.0, take_ranged n ns h.1)
 
 parts : (a : Act) → IsTrue (is_ranged a) → IsTrue (has_ranged_arguments (call_of a)) × IsTrue (is_ranged_answer (recorded_by a))
-parts a h = both (has_ranged_arguments (call_of a)) (is_ranged_answer (recorded_by a)) (sym (one_lawful.ranged_numbers a) ∙ h)
+parts a h = and_parts (has_ranged_arguments (call_of a)) (is_ranged_answer (recorded_by a)) (sym (one_lawful.ranged_numbers a) ∙ h)
 
 arguments_ranged : (a : Act) → IsTrue (is_ranged a) → Each InRange (arguments_in a)
 arguments_ranged a h =
     let c = call_of a in
-    let three = both (in_range c.first && in_range c.second) (in_range c.third) (parts a h).0 in
-    let two = both (in_range c.first) (in_range c.second) three.0 in
+    let three = and_parts (in_range c.first && in_range c.second) (in_range c.third) (parts a h).0 in
+    let two = and_parts (in_range c.first) (in_range c.second) three.0 in
     take_ranged _ (arguments c) (two.0, (two.1, (three.1, tt)))
 
 -- ---- the text of an operation

@@ -2,6 +2,7 @@
 use Rattle.std.proofs.Common.{◌≡◌, ℕ, ◌==◌, not, Bool, true, false, ◌&&◌, List, [], ◌∷◌, ◌++◌, refl, sym}
 use Rattle.std.proofs.Common.{◌∙◌, ap, subst, eqb-true, eq-eqb}
 use Rattle.std.specs.List.{list_all}
+use Rattle.std.proofs.lemmas.Bool.{and_parts}
 
 -- each byte passes the test
 abbrev pub Only : (ℕ → Bool) → List ℕ → Type 0
@@ -61,15 +62,10 @@ passes_other p c fails b passes = by (b == c) refl
 pub only_other : (p : ℕ → Bool) (c : ℕ) → p c ≡ false → (x : List ℕ) → Only p x → Only (other_than c) x
 only_other p c fails x h = only_weaker p (other_than c) (passes_other p c fails) x h
 
--- both parts of a true conjunction are true
-pub both : (a b : Bool) → (a && b) ≡ true → (a ≡ true) × (b ≡ true)
-both true b h = (refl, h)
-both false b h = absurd (cc)
-
 -- If `list_all` says that each byte passes a test, each byte does.
 pub only_all : (p : ℕ → Bool) (x : List ℕ) → list_all p x ≡ true → Only p x
 only_all p [] h = tt
-only_all p (b ∷ x) h = let two = both (p b) (list_all p x) h in (two.0, only_all p x two.1)
+only_all p (b ∷ x) h = let two = and_parts (p b) (list_all p x) h in (two.0, only_all p x two.1)
 
 -- If each byte passes a test, `list_all` says so.
 pub all_only : (p : ℕ → Bool) (x : List ℕ) → Only p x → list_all p x ≡ true

@@ -17,6 +17,7 @@ use Rattle.pp_model.proofs.Lists.{before_right, by_key}
 use Rattle.pp_model.proofs.Logs.{eqb_not}
 use Rattle.pp_model.proofs.Names.{names_not}
 use Rattle.pp_model.proofs.Trace.{keep_all}
+use Rattle.pp_model.proofs.Push.{marked_other}
 
 -- no two entries have one id
 abbrev pub LocalIds : {Op : Type 0} → List (LocalEntry Op) → Type 0
@@ -58,12 +59,6 @@ last_end (y ∷ z ∷ xs) x = last_end (z ∷ xs) x
 not_same : (a b : ℕ) → a ≢ b → eqb a b ≡ false
 not_same a b n = elim (eqb_tells a b) [ inl r ↦ absurd (n r.1) | inr r ↦ r.0 ]
 
-set_mark_off : {Op : Type 0} (id : ℕ) (m : Mark) (l : List (LocalEntry Op)) → ((a : LocalEntry Op) → In a l → a.id ≢ id) → set_mark id m l ≡ l
-set_mark_off id m [] n = refl
-set_mark_off {Op} id m (a ∷ l) n =
-    ap (λ (b : Bool). cond b (marked m a) a ∷ set_mark id m l) (not_same a.id id (n a (inl refl)))
-    ∙ ap (λ (w : List (LocalEntry Op)). a ∷ w) (set_mark_off id m l (λ b i. n b (inr i)))
-
 -- an entry of a log, with what comes before and after it
 module _ {Op : Type 0} (p q : List (LocalEntry Op)) (e : LocalEntry Op) (d : LocalIds (p ++ e ∷ q)) where
   -- An entry before another one in a log has another id.
@@ -97,9 +92,9 @@ module _ {Op : Type 0} (p q : List (LocalEntry Op)) (e : LocalEntry Op) (d : Loc
   set_mark_at m =
       let f = λ (a : LocalEntry Op). cond (a.id == e.id) (marked m a) a in
       map-append f p (e ∷ q)
-      ∙ ap (λ (w : List (LocalEntry Op)). w ++ map f (e ∷ q)) (set_mark_off e.id m p apart_before)
+      ∙ ap (λ (w : List (LocalEntry Op)). w ++ map f (e ∷ q)) (marked_other e.id m p apart_before)
       ∙ ap (λ (b : Bool). p ++ cond b (marked m e) e ∷ map f q) (eq-eqb e.id e.id refl)
-      ∙ ap (λ (w : List (LocalEntry Op)). p ++ marked m e ∷ w) (set_mark_off e.id m q apart_after)
+      ∙ ap (λ (w : List (LocalEntry Op)). p ++ marked m e ∷ w) (marked_other e.id m q apart_after)
 
   -- A log without the id of an entry is the part before it and the part after it.
   pub without_it : without_local e.id (p ++ e ∷ q) ≡ p ++ q

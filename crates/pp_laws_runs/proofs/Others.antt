@@ -26,6 +26,7 @@ use Rattle.pp_records.proofs.Ends.{after_append, runs_back, runs_front}
 use Rattle.pp_records.proofs.Taking.{pulls_law, tx_on}
 use Rattle.pp_laws_runs.proofs.Logs.{LocalIds, mark_found, marked, set_mark_at}
 use Rattle.pp_laws_runs.proofs.Pushing.{NoneUnpushed}
+use Rattle.pp_laws_runs.proofs.Changes.{names_stay}
 
 -- ---- other transactions
 
@@ -61,35 +62,10 @@ still_open {Op} c (Cmt t) y i n = by (tx t c.opened) i
 still_open {Op} c (Quit t) y i n = (from_filter (λ (w : Tx Op). not (w.name =ⁿ t)) y c.opened i).0
 still_open c (Note t) y i n = i
 
--- a name that was begun stays begun
-begun_stays : {Op : Type 0} (c : Config Op) (s : Step Op) (t : Name) → In t c.names → In t (then c s).names
-begun_stays c (Begin u p b) t i = inr i
-begun_stays c (App u id op) t i = i
-begun_stays c (Unapp u id) t i = i
-begun_stays {Op} c (Push u id) t i = by (entry_of id Unpushed (tx u c.opened))
-  where
-    by : (e : Option (LocalEntry Op)) → In t (push_effect c u id e).names
-    by None = i
-    by (Some e) = i
-begun_stays c (Unpush u id) t i = i
-begun_stays {Op} c (Pull u id) t i = by (of_other u id c.shared)
-  where
-    by : (g : Option (SharedEntry Op)) → In t (pull_effect c u id g).names
-    by None = i
-    by (Some g) = i
-begun_stays c (Unpull u id) t i = i
-begun_stays {Op} c (Cmt u) t i = by (tx u c.opened)
-  where
-    by : (x : Option (Tx Op)) → In t (commit_effect c u x).names
-    by None = i
-    by (Some x) = i
-begun_stays c (Quit u) t i = i
-begun_stays c (Note u) t i = i
-
 -- A name that was begun stays begun.
 pub begun_after : {Op : Type 0} (ss : List (Step Op)) (c : Config Op) (t : Name) → In t c.names → In t (after_from c ss).names
 begun_after [] c t i = i
-begun_after (s ∷ ss) c t i = begun_after ss (then c s) t (begun_stays c s t i)
+begun_after (s ∷ ss) c t i = begun_after ss (then c s) t (names_stay c s t i)
 
 -- all these steps are of the transaction of this name
 abbrev pub AreOf : {Op : Type 0} → Name → List (Step Op) → Type 0

@@ -32,13 +32,9 @@ use Rattle.pp_laws_runs.proofs.Pushing.{NoneUnpushed, pushall_only}
 use Rattle.pp_laws_runs.proofs.Settled.{AllCommitted, NotPull, PulledCommitted, committed_append, no_pull}
 use Rattle.pp_laws_runs.proofs.Settled.{no_pulls, pulls_committed, run_pulled}
 use Rattle.pp_laws_runs.proofs.Undoing.{back_only}
+use Rattle.pp_judge.proofs.Stating.{each_append}
 
 -- ---- steps that pull nothing
-
--- Each element of joined lists has a property if each of both lists has it.
-pub each_append : {A : Type 0} (P : A → Type 0) (xs ys : List A) → Each P xs → Each P ys → Each P (xs ++ ys)
-each_append P [] ys h k = k
-each_append P (x ∷ xs) ys h k = (h.0, each_append P xs ys h.1 k)
 
 taken_pull_nothing : {Op : Type 0} (t : Name) (l : List (LocalEntry Op)) → Each NotPull (taken_out t l)
 taken_pull_nothing t [] = tt

@@ -23,7 +23,8 @@ use Rattle.pp_records.specs.Records.{RunRecord}
 use Rattle.pp_records.specs.Records as records
 use Rattle.pp_records.proofs.Ends.{after_append, runs_back}
 use Rattle.pp_laws_runs.proofs.Pulling.{AllShared}
-use Rattle.pp_laws_runs.proofs.Records.{each_append, only_begin, open_all}
+use Rattle.pp_laws_runs.proofs.Records.{only_begin, open_all}
+use Rattle.pp_judge.proofs.Stating.{each_append}
 
 -- the step pushes nothing
 abbrev NotPush : {Op : Type 0} → Step Op → Type 0

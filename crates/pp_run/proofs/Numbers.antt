@@ -14,15 +14,10 @@ use Rattle.pp_format_read.specs.Members.{name_from}
 use Rattle.pp_run.specs.Words.{command_named, command_of, drill_number}
 use Rattle.pp_run.specs.declared.words.Command.{Command}
 use Rattle.pp_run.specs.declared.words.Command.TheVariants.{Certify, Drill, Expand, Focus, Judge, Quick, Recheck, Swaps, Views}
+use Rattle.std.proofs.lemmas.Bool.{and_parts}
+use Rattle.pp_laws_summary.proofs.Lookups.{and_true}
 
 -- ---- tests
-
-both : (a b : Bool) → a ≡ true → b ≡ true → (a && b) ≡ true
-both a b p q = ap (λ x. x && b) p ∙ q
-
-parts : (a b : Bool) → (a && b) ≡ true → (a ≡ true) × (b ≡ true)
-parts true b e = (refl, e)
-parts false b e = absurd (let no : false ≡ true = e in cc)
 
 yes_le : (a b : ℕ) → a ≤ b → nat_le a b ≡ true
 yes_le a b h = grind (arith, nat_tests)
@@ -47,7 +42,7 @@ pub number_is : (word : List ℕ) (n : ℕ) → IsNumberOf word n → drill_numb
 number_is word n (is, low, high) =
     let value : digits_value 10 word ≡ n = ap (digits_value 10) is ∙ (decimal_is_IsNumeral n (omega (arith, high))).1 in
     let passes : test word n ≡ true =
-    both (bytes_eq word (decimal n)) (nat_le 1 n && nat_le n 20_000) ((bytes_eq-Decides word (decimal n)).1 is) (both (nat_le 1 n) (nat_le n 20_000) (yes_le 1 n low) (yes_le n 20_000 high)) in
+    and_true (bytes_eq word (decimal n)) (nat_le 1 n && nat_le n 20_000) ((bytes_eq-Decides word (decimal n)).1 is) (and_true (nat_le 1 n) (nat_le n 20_000) (yes_le 1 n low) (yes_le n 20_000 high)) in
     ap (λ (k : ℕ). if test word k then Some k else None) value ∙ ap (λ (b : Bool). if b then Some n else None) passes
 
 -- The number of an argument is from 1 to 20,000, and the argument is its text.
@@ -55,8 +50,8 @@ pub number_told : (word : List ℕ) (n : ℕ) → drill_number word ≡ Some n �
 number_told word n e =
     let v = digits_value 10 word in
     let t = by_test (test word v) v n e in
-    let p = parts (bytes_eq word (decimal v)) (nat_le 1 v && nat_le v 20_000) t.0 in
-    let q = parts (nat_le 1 v) (nat_le v 20_000) p.1 in
+    let p = and_parts (bytes_eq word (decimal v)) (nat_le 1 v && nat_le v 20_000) t.0 in
+    let q = and_parts (nat_le 1 v) (nat_le v 20_000) p.1 in
     subst (IsNumberOf word) t.1 ((bytes_eq-Decides word (decimal v)).0 p.0, le_yes 1 v q.0, le_yes v 20_000 q.1)
 
 -- An argument that is the text of no number from 1 to 20,000 has no number.
