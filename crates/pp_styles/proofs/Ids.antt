@@ -1,9 +1,10 @@
 -- Ids among the last of a list, and in a local log.
 use Rattle.std.proofs.Common.{◌≡◌, ◌≢◌, ◌≤◌, ◌<◌, ◌-◌, ◌==◌, ◌||◌, ℕ, zero, suc, Bool, true, false, cond, not, List, []}
-use Rattle.std.proofs.Common.{◌∷◌, ◌++◌, length, drop, Option, None, Some, refl, sym, ap, subst, ◌∙◌, arith, inl, inr}
+use Rattle.std.proofs.Common.{◌∷◌, ◌++◌, length, drop, max, Option, None, Some, refl, sym, ap, subst, ◌∙◌, arith, inl, inr}
 use Rattle.std.specs.List.{slice_get}
 use Rattle.std.proofs.Math.Bool.{or-true}
-use Rattle.std.proofs.lemmas.Bool.{eq-eqb}
+use Rattle.std.proofs.Math.Nat.{max-eq_left, max-eq_right}
+use Rattle.std.proofs.lemmas.Bool.{cases_lt, eq-eqb}
 use Rattle.std.proofs.lemmas.Bool.Decides.{eqb_tells}
 use Rattle.std.proofs.lemmas.List.{length-append}
 use Rattle.std.proofs.lemmas.Option.{same_Some}
@@ -107,6 +108,20 @@ not_shorter l r i off = by (stands_in l i) refl
 -- an id among those after some is among those after fewer
 pub lower_in : (ids : List ℕ) (n m id : ℕ) → m ≤ n → In id (drop n ids) → In id (drop m ids)
 lower_in ids n m id low there = later_in ids n m id there (λ i above below here. absurd (omega arith))
+
+-- an id among those after some, and after some more or fewer, is among those after both
+pub in_drop_max : (ids : List ℕ) (n m id : ℕ) → In id (drop n ids) → In id (drop m ids) → In id (drop (max n m) ids)
+in_drop_max ids n m id first second = elim (cases_lt n m) [
+  | inl below ↦ subst (λ (k : ℕ). In id (drop k ids)) (sym (max-eq_right (omega (arith, below)))) second
+  | inr above ↦ subst (λ (k : ℕ). In id (drop k ids)) (sym (max-eq_left (omega (arith, above)))) first
+]
+
+-- no id is among those after all of a list
+pub none_after : (ids : List ℕ) (n id : ℕ) → length ids ≤ n → In id (drop n ids) → ⊥
+none_after [] zero id past there = absurd there
+none_after [] (suc n) id past there = absurd there
+none_after (j ∷ ids) zero id past there = absurd (omega arith)
+none_after (j ∷ ids) (suc n) id past there = none_after ids n id (omega arith) there
 
 -- an id at a place is among those after fewer
 pub in_drop_at : (ids : List ℕ) (n at id : ℕ) → n ≤ at → slice_get ids at ≡ Some id → In id (drop n ids)

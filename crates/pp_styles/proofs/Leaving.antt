@@ -222,12 +222,13 @@ module _ {Op : Type 0} (place : Op → ℕ) (G : List (SharedEntry Op)) (t : Nam
         subst (λ (w : SharedEntry Op). (k.taken t (place w.op) ≡ 0) ⊎ In id (drop (k.taken t (place w.op)) (k.ids (place w.op)))) (sym (one g i is)) again
 
     -- If one number is lowered, and excludes the id, the transaction has not passed it.
-    pub passes_back : (object : ℕ) → place e.op ≡ object → In e G × (e.id ≡ id) → (p q : Publications) → q.kept ≡ p.kept → ((v : Name) (o : ℕ) → q.ids v o ≡ p.ids v o) → LowersPassed t e.owner object p q →
+    pub passes_back : (object : ℕ) → place e.op ≡ object → In e G × (e.id ≡ id) → (p q : Publications) → q.kept ≡ p.kept → ((v : Name) (o : ℕ) → q.ids v o ≡ p.ids v o) → ((v : Name) (o : ℕ) → q.gone v o ≡ p.gone v o) → LowersPassed t e.owner object p q →
         (p.kept ≡ true → (q.passed t e.owner (place e.op) ≡ 0) ⊎ In id (drop (q.passed t e.owner (place e.op)) (p.ids e.owner (place e.op)))) → PassesBack place G t id p q
-    passes_back object on there p q kept ids passed again =
+    passes_back object on there p q kept ids gone passed again =
         record {
           kept = kept;
           ids = ids;
+          gone = gone;
           passed = λ u v o. elim (passed u v o) [
             | inl same ↦ inl same
             | inr low ↦ inr (low.0, (e, there.0, there.1, low.1, on ∙ sym low.2), low.3)
@@ -277,6 +278,7 @@ module _ {Op : Type 0} (place : Op → ℕ) (G : List (SharedEntry Op)) (t : Nam
         record {
           kept = refl;
           ids = λ v o. refl;
+          gone = λ v o. refl;
           passed = λ u v o. inl refl;
           away = λ before g i is. absurd (none g i is);
         }

@@ -117,12 +117,12 @@ module _ {Shape State Op Undo : Type 0} (o : Object Shape State Op Undo) (place 
 
       module _ (G : Shape × SharedLog Op) (shared_is : G ≡ (v.shape, v.config.shared)) where
         -- with sources
-        pub followed_here : p.kept ≡ true → (sources : List Name) (ids : List ℕ) → ((i : ℕ) → In i first → In i ids) → ((u : Name) → In u sources → Adds local.1 G.1 (p.ids u object) (p.passed t u object) ids) →
+        pub followed_here : p.kept ≡ true → (sources : List Name) (ids : List ℕ) → ((i : ℕ) → In i first → In i ids) → ((u : Name) → In u sources → Adds local.1 G.1 (p.ids u object) (p.gone u object) (p.passed t u object) ids) →
             (x : Tx Op) → tx t v.config.opened ≡ Some x → IsFollowedBut place object sources v.config.shared x.local ids
         followed_here kept sources ids more added x open_is =
             followed_but place p v.config listed (rules_of o v.shape) s t x open_is object sources first ids kept (all_told x open_is) more
-            (λ u among. subst (λ (l : LocalLog Op). Adds l v.config.shared (p.ids u object) (p.passed t u object) ids) (same_local x open_is)
-            (subst (λ (w : Shape × SharedLog Op). Adds local.1 w.1 (p.ids u object) (p.passed t u object) ids) shared_is (added u among)))
+            (λ u among. subst (λ (l : LocalLog Op). Adds l v.config.shared (p.ids u object) (p.gone u object) (p.passed t u object) ids) (same_local x open_is)
+            (subst (λ (w : Shape × SharedLog Op). Adds local.1 w.1 (p.ids u object) (p.gone u object) (p.passed t u object) ids) shared_is (added u among)))
 
     -- what is looked at
     pub looks_here : (object : ℕ) (G : Shape × SharedLog Op) → G ≡ (v.shape, v.config.shared) → (q : Publications) → LooksFurther t object local.1 G.1 p q → TellsTrue place q v.config

@@ -16,37 +16,40 @@ use Rattle.pp_styles.specs.Noting.{kept_ids, taken_in}
 use Rattle.pp_styles.specs.declared.published.Published.{Published}
 
 -- What is known: whether lists are kept; of each owner and object, the ids that it pushed, in
--- order; and of each transaction, owner and object, how many of these ids, from the first on, the
--- transaction has passed.
+-- order; how many of these ids, from the first on, are gone; and of each transaction, owner and
+-- object, how many of these ids, from the first on, the transaction has passed.
 pub record Publications : Type 0 where
   pub kept : Bool
   pub ids : Name → ℕ → List ℕ
+  pub gone : Name → ℕ → ℕ
   pub passed : Name → Name → ℕ → ℕ
 
--- A transaction has passed so many ids of each list, and an entry that is not in its local log has
--- its id among the others.
-pub record HasPassed {Op : Type 0} (place : Op → ℕ) (p : Publications) (G : List (SharedEntry Op))
-    (t : Name) (l : List (LocalEntry Op)) : Type 0 where
-  pub within : (v : Name) (o : ℕ) → p.passed t v o ≤ length (p.ids v o)
+-- Each list has at least so many ids, and an entry that is not in a local log has its id among the
+-- others.
+pub record HasPassed {Op : Type 0} (place : Op → ℕ) (p : Publications) (count : Name → ℕ → ℕ)
+    (G : List (SharedEntry Op)) (l : List (LocalEntry Op)) : Type 0 where
+  pub within : (v : Name) (o : ℕ) → count v o ≤ length (p.ids v o)
   pub rest : (g : SharedEntry Op) → In g G → stands_in l g.id ≡ false →
-      In g.id (drop (p.passed t g.owner (place g.op)) (p.ids g.owner (place g.op)))
+      In g.id (drop (count g.owner (place g.op)) (p.ids g.owner (place g.op)))
 
 -- The id of each entry is in the list of its owner and its object.
 abbrev pub AllListed : {Op : Type 0} → (Op → ℕ) → Publications → List (SharedEntry Op) → Type 0
 AllListed {Op} place p G =
     (g : SharedEntry Op) → In g G → In g.id (p.ids g.owner (place g.op))
 
--- It is true of a configuration.
+-- It is true of a configuration. No id that is gone is of an entry that is listed only there.
 pub record TellsTrue {Op : Type 0} (place : Op → ℕ) (p : Publications) (c : Config Op) :
     Type 0 where
   pub listed : p.kept ≡ true → AllListed place p c.shared
+  pub gone : p.kept ≡ true → HasPassed place p p.gone c.shared []
   pub passed : p.kept ≡ true → (x : Tx Op) → In x c.opened →
-      HasPassed place p c.shared x.name x.local
+      HasPassed place p (p.passed x.name) c.shared x.local
 
 -- a transaction has passed nothing any more
 pub record Unpasses (t : Name) (old new : Publications) : Type 0 where
   pub kept : new.kept ≡ old.kept
   pub ids : (v : Name) (o : ℕ) → new.ids v o ≡ old.ids v o
+  pub gone : (v : Name) (o : ℕ) → new.gone v o ≡ old.gone v o
   pub passed : (u v : Name) (o : ℕ) →
       new.passed u v o ≡ (if u =ⁿ t then 0 else old.passed u v o)
 
@@ -69,6 +72,7 @@ pub record PassesBack {Op : Type 0} (place : Op → ℕ) (G : List (SharedEntry 
     (old new : Publications) : Type 0 where
   pub kept : new.kept ≡ old.kept
   pub ids : (v : Name) (o : ℕ) → new.ids v o ≡ old.ids v o
+  pub gone : (v : Name) (o : ℕ) → new.gone v o ≡ old.gone v o
   pub passed : (u v : Name) (o : ℕ) → (new.passed u v o ≡ old.passed u v o)
       ⊎ (((u =ⁿ t) ≡ true) × IsEntryOf place G id v o × (new.passed u v o ≤ old.passed u v o))
   pub away : old.kept ≡ true → (g : SharedEntry Op) → In g G → g.id ≡ id →
@@ -105,6 +109,7 @@ pub record ListsLast {Op : Type 0} (place : Op → ℕ) (G : List (SharedEntry O
   pub kept : new.kept ≡ old.kept
   pub ids : old.kept ≡ true → (v : Name) (o : ℕ) →
       new.ids v o ≡ listed_more place (last_of G) old.ids v o
+  pub gone : (v : Name) (o : ℕ) → new.gone v o ≡ old.gone v o
   pub passed : (u v : Name) (o : ℕ) → new.passed u v o ≡ old.passed u v o
 
 -- What is listed after a step, by the shared log that is there then.
@@ -121,37 +126,41 @@ ListsPushed place (Cmt t) G old new = new ≡ old
 ListsPushed place (Quit t) G old new = new ≡ old
 ListsPushed place (Note t) G old new = new ≡ old
 
--- Lists are kept as before, or none are kept, or all of G is listed and nothing is passed.
+-- Lists are kept as before, or none are kept, or all of G is listed, and nothing is gone or passed.
 abbrev pub Keeps : {Op : Type 0} → (Op → ℕ) → List (SharedEntry Op) → Publications →
     Publications → Type 0
 Keeps place G old new =
     (new ≡ old) ⊎ (new.kept ≡ false)
-    ⊎ (AllListed place new G × ((u v : Name) (o : ℕ) → new.passed u v o ≡ 0))
+    ⊎ (AllListed place new G × ((v : Name) (o : ℕ) → new.gone v o ≡ 0)
+    × ((u v : Name) (o : ℕ) → new.passed u v o ≡ 0))
 
 -- Of the entries of G that are not in a local log: if the id of one is among the ids from the n-th
--- on, it is among the others.
-abbrev pub Adds : {Op : Type 0} → List (LocalEntry Op) → List (SharedEntry Op) → List ℕ → ℕ →
+-- on, and from the m-th on, it is among the others.
+abbrev pub Adds : {Op : Type 0} → List (LocalEntry Op) → List (SharedEntry Op) → List ℕ → ℕ → ℕ →
     List ℕ → Type 0
-Adds {Op} l G ids n more =
-    (g : SharedEntry Op) → In g G → stands_in l g.id ≡ false → In g.id (drop n ids) → In g.id more
+Adds {Op} l G ids n m more = (g : SharedEntry Op) → In g G → stands_in l g.id ≡ false →
+    In g.id (drop n ids) → In g.id (drop m ids) → In g.id more
 
--- Each number is as it was, or none, or it is at this object, and what it passes more needs no
--- further look.
+-- Each number is as it was, or none, or it is at this object, and what it passes more is gone or
+-- needs no further look.
 abbrev pub PassesAt : {Op : Type 0} → List (LocalEntry Op) → List (SharedEntry Op) → ℕ →
-    (Name → List ℕ) → (Name → ℕ → ℕ) → (Name → ℕ → ℕ) → Type 0
-PassesAt l G o ids old new =
+    (Name → List ℕ) → (Name → ℕ → ℕ) → (Name → ℕ → ℕ) → (Name → ℕ → ℕ) → Type 0
+PassesAt l G o ids gone old new =
     (v : Name) (p : ℕ) → (new v p ≡ old v p) ⊎ (new v p ≡ 0)
-    ⊎ ((p ≡ o) × (new v p ≤ length (ids v)) × Adds l G (ids v) (old v p) (drop (new v p) (ids v)))
+    ⊎ ((p ≡ o) × (new v p ≤ length (ids v))
+    × Adds l G (ids v) (gone v p) (old v p) (drop (new v p) (ids v)))
 
--- The same, of a transaction with this local log.
+-- The same, of a transaction with this local log. More ids may be gone at this object.
 pub record LooksFurther {Op : Type 0} (t : Name) (o : ℕ) (l : List (LocalEntry Op))
     (G : List (SharedEntry Op)) (old new : Publications) : Type 0 where
   pub kept : new.kept ≡ old.kept
   pub ids : (v : Name) (p : ℕ) → new.ids v p ≡ old.ids v p
+  pub gone : PassesAt [] G o (λ v. old.ids v o) old.gone old.gone new.gone
   pub passed : (u v : Name) (p : ℕ) → (new.passed u v p ≡ old.passed u v p)
       ⊎ (new.passed u v p ≡ 0)
       ⊎ (((u =ⁿ t) ≡ true) × (p ≡ o) × (new.passed u v p ≤ length (old.ids v p))
-      × Adds l G (old.ids v p) (old.passed t v p) (drop (new.passed u v p) (old.ids v p)))
+      × Adds l G (old.ids v p) (old.gone v p) (old.passed t v p)
+      (drop (new.passed u v p) (old.ids v p)))
 
 -- what is kept, and nothing if none is
 abbrev pub kept_entries : {K V H : Type 0} → Option (IndexMap K V H) → List (K × V)
@@ -179,5 +188,6 @@ publications n =
     record {
       kept = n.kept;
       ids = λ v o. ids_by v o n.lists.entries;
+      gone = λ v o. taken_in v n.gone o;
       passed = λ u v o. passed_by u v o n.passed.entries;
     }

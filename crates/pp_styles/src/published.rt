@@ -19,9 +19,6 @@ use pp_log_local::Local;
 use pp_log_shared::Shared;
 use std::alloc::Global;
 
-/// By so many the ids that left the shared log may outnumber its entries.
-const FEW_IDS: usize = 64;
-
 /// Lists of what each transaction pushed, and for each open transaction how much of them it is
 /// known to have. No list is kept until one is wanted.
 #[derive(Drop)]
@@ -32,8 +29,9 @@ pub struct Published {
     /// An id that left the shared log stays in its list, and is added again if it is pushed again.
     lists: Lists,
     places: Places,
-    /// How many ids are in the lists.
-    id_count: usize,
+    /// For an owner and an object: so many ids of their list, from the first on, are gone. The other
+    /// ids are those of all entries.
+    gone: TakenFrom,
     /// For an open transaction, an owner and an object: so many ids of their list, from the first
     /// on, are passed. The other ids are those of all entries that are not in the local log.
     passed: IndexMap<Name, TakenFrom>,
@@ -65,6 +63,54 @@ fn first_missing<S: Parted>(shared: &Shared<S>, local: &Local<S>, ids: &[u32], f
     ids.len()
 }
 
+/// The first position at `from` or after it whose entry is in the shared log.
+fn first_there<S: Parted>(shared: &Shared<S>, ids: &[u32], from: usize) -> usize
+    ensures within { result ≤ length ids.now }
+    ensures gone { (i id : ℕ) → from ≤ i → i < result → slice_get ids.now i ≡ Some id →
+        position (λ e. e.id == id) shared.now.1 ≡ None }
+{
+    for at in from..ids.len() {
+        if shared.find(ids[at]).is_some() {
+            return at;
+        }
+    }
+    ids.len()
+}
+
+/// Keeps a number at an owner and an object if it is more than `from`. If memory runs out, none may
+/// be kept.
+fn move_on(alloc: Global, counts: &mut TakenFrom, owner: &Name, object: u16, from: usize, at: usize)
+    ensures { (v : NameOf) (o : ℕ) → (taken_in v counts.new o ≡ 0)
+        ⊎ (taken_in v counts.new o ≡ taken_in v counts.old o)
+        ⊎ (((v =ⁿ owner.now) ≡ true) × (o ≡ object) × (taken_in v counts.new o ≡ at)) }
+{
+    if at > from {
+        counts.set(alloc, owner, object, at);
+    }
+}
+
+/// Moves on how many ids of an owner and an object are gone. It returns that number.
+fn skip_gone<S: Parted>(
+    alloc: Global,
+    gone: &mut TakenFrom,
+    owner: &Name,
+    object: u16,
+    ids: &[u32],
+    shared: &Shared<S>,
+) -> usize
+    ensures each { (v : NameOf) (o : ℕ) → (taken_in v gone.new o ≡ 0)
+        ⊎ (taken_in v gone.new o ≡ taken_in v gone.old o)
+        ⊎ (((v =ⁿ owner.now) ≡ true) × (o ≡ object) × (taken_in v gone.new o ≡ result)) }
+    ensures within { result ≤ length ids.now }
+    ensures gone { (i id : ℕ) → taken_in owner.now gone.old object ≤ i → i < result →
+        slice_get ids.now i ≡ Some id → position (λ e. e.id == id) shared.now.1 ≡ None }
+{
+    let from = gone.count(owner, object);
+    let at = first_there(shared, ids, from);
+    move_on(alloc, gone, owner, object, from, at);
+    at
+}
+
 /// The ids from a position on.
 fn last_ids(ids: &[u32], from: usize) -> &[u32]
     requires { from ≤ length ids.now }
@@ -93,30 +139,38 @@ fn pass_back(passed: &mut TakenFrom, owner: &Name, object: u16, most: usize)
     passed.replace(owner, object, most);
 }
 
-/// Adds the ids of an owner and an object that are not passed. It first passes those that need no
-/// further look.
+/// Adds the ids of an owner and an object that are neither gone nor passed. It first passes those
+/// that need no further look.
 fn add_rest<S: Parted>(
     alloc: Global,
     ids: &mut Vec<u32>,
     passed: &mut TakenFrom,
+    gone: &mut TakenFrom,
     owner: &Name,
     object: u16,
     owners: &Owners,
     shared: &Shared<S>,
     local: &Local<S>,
 ) -> Result<(), OutOfMemory>
+    ensures gone { PassesAt [] shared.now.1 object (λ v. ids_of v owners.now.entries)
+        (λ v p. taken_in v gone.old p) (λ v p. taken_in v gone.old p)
+        (λ v p. taken_in v gone.new p) }
     ensures passed { PassesAt local.now.1 shared.now.1 object (λ v. ids_of v owners.now.entries)
-        (λ v p. taken_in v passed.old p) (λ v p. taken_in v passed.new p) }
+        (λ v p. taken_in v gone.old p) (λ v p. taken_in v passed.old p)
+        (λ v p. taken_in v passed.new p) }
     ensures kept { OnOk result ((i : ℕ) → In i ids.old.items → In i ids.new.items) }
     ensures added { OnOk result (Adds local.now.1 shared.now.1 (ids_of owner.now owners.now.entries)
-        (taken_in owner.now passed.old object) ids.new.items) }
+        (taken_in owner.now gone.old object) (taken_in owner.now passed.old object)
+        ids.new.items) }
 {
     let listed = listed(owners, owner);
     let from = passed.count(owner, object);
-    let at = first_missing(shared, local, listed, from);
-    if at > from {
-        passed.set(alloc, owner, object, at);
+    if from >= listed.len() {
+        return Ok(());
     }
+    let least = skip_gone(alloc, gone, owner, object, listed, shared);
+    let at = first_missing(shared, local, listed, from.max(least));
+    move_on(alloc, passed, owner, object, from, at);
     ids.extend_from_slice(last_ids(listed, at))?;
     Ok(())
 }
@@ -126,21 +180,28 @@ fn add_rests<S: Parted>(
     alloc: Global,
     ids: &mut Vec<u32>,
     passed: &mut TakenFrom,
+    gone: &mut TakenFrom,
     sources: &[Name],
     object: u16,
     owners: &Owners,
     shared: &Shared<S>,
     local: &Local<S>,
 ) -> Result<(), OutOfMemory>
+    ensures gone { PassesAt [] shared.now.1 object (λ v. ids_of v owners.now.entries)
+        (λ v p. taken_in v gone.old p) (λ v p. taken_in v gone.old p)
+        (λ v p. taken_in v gone.new p) }
     ensures passed { PassesAt local.now.1 shared.now.1 object (λ v. ids_of v owners.now.entries)
-        (λ v p. taken_in v passed.old p) (λ v p. taken_in v passed.new p) }
+        (λ v p. taken_in v gone.old p) (λ v p. taken_in v passed.old p)
+        (λ v p. taken_in v passed.new p) }
     ensures kept { OnOk result ((i : ℕ) → In i ids.old.items → In i ids.new.items) }
     ensures added { OnOk result ((v : NameOf) → In v sources.now →
-        Adds local.now.1 shared.now.1 (ids_of v owners.now.entries) (taken_in v passed.old object)
-        ids.new.items) }
+        Adds local.now.1 shared.now.1 (ids_of v owners.now.entries) (taken_in v gone.old object)
+        (taken_in v passed.old object) ids.new.items) }
 {
     for source in sources {
-        add_rest(alloc, ids, passed, source, object, owners, shared, local)?;
+        add_rest(
+            alloc, ids, passed, gone, source, object, owners, shared, local,
+        )?;
     }
     Ok(())
 }
@@ -179,25 +240,34 @@ fn add_fewer<S: Parted>(
     alloc: Global,
     ids: &mut Vec<u32>,
     passed: &mut TakenFrom,
+    gone: &mut TakenFrom,
     sources: &SourceSet,
     object: u16,
     owners: &Owners,
     shared: &Shared<S>,
     local: &Local<S>,
 ) -> Result<(), OutOfMemory>
+    ensures gone { PassesAt [] shared.now.1 object (λ v. ids_of v owners.now.entries)
+        (λ v p. taken_in v gone.old p) (λ v p. taken_in v gone.old p)
+        (λ v p. taken_in v gone.new p) }
     ensures passed { PassesAt local.now.1 shared.now.1 object (λ v. ids_of v owners.now.entries)
-        (λ v p. taken_in v passed.old p) (λ v p. taken_in v passed.new p) }
+        (λ v p. taken_in v gone.old p) (λ v p. taken_in v passed.old p)
+        (λ v p. taken_in v passed.new p) }
     ensures kept { OnOk result ((i : ℕ) → In i ids.old.items → In i ids.new.items) }
     ensures added { OnOk result ((v : NameOf) → In v sources.now.keys →
-        Adds local.now.1 shared.now.1 (ids_of v owners.now.entries) (taken_in v passed.old object)
-        ids.new.items) }
+        Adds local.now.1 shared.now.1 (ids_of v owners.now.entries) (taken_in v gone.old object)
+        (taken_in v passed.old object) ids.new.items) }
 {
     if sources.len() <= owners.len() {
         let names = sources.as_slice();
-        return add_rests(alloc, ids, passed, names, object, owners, shared, local);
+        return add_rests(
+            alloc, ids, passed, gone, names, object, owners, shared, local,
+        );
     }
     let names = listed_sources(alloc, sources, owners)?;
-    add_rests(alloc, ids, passed, &names, object, owners, shared, local)
+    add_rests(
+        alloc, ids, passed, gone, &names, object, owners, shared, local,
+    )
 }
 
 /// The same of each source, by all lists.
@@ -205,24 +275,30 @@ fn add_on_object<S: Parted>(
     alloc: Global,
     ids: &mut Vec<u32>,
     passed: &mut TakenFrom,
+    gone: &mut TakenFrom,
     sources: &SourceSet,
     object: u16,
     lists: &Lists,
     shared: &Shared<S>,
     local: &Local<S>,
 ) -> Result<(), OutOfMemory>
+    ensures gone { PassesAt [] shared.now.1 object (λ v. ids_by v object lists.now.entries)
+        (λ v p. taken_in v gone.old p) (λ v p. taken_in v gone.old p)
+        (λ v p. taken_in v gone.new p) }
     ensures passed { PassesAt local.now.1 shared.now.1 object
-        (λ v. ids_by v object lists.now.entries) (λ v p. taken_in v passed.old p)
-        (λ v p. taken_in v passed.new p) }
+        (λ v. ids_by v object lists.now.entries) (λ v p. taken_in v gone.old p)
+        (λ v p. taken_in v passed.old p) (λ v p. taken_in v passed.new p) }
     ensures kept { OnOk result ((i : ℕ) → In i ids.old.items → In i ids.new.items) }
     ensures added { OnOk result ((v : NameOf) → In v sources.now.keys →
         Adds local.now.1 shared.now.1 (ids_by v object lists.now.entries)
-        (taken_in v passed.old object) ids.new.items) }
+        (taken_in v gone.old object) (taken_in v passed.old object) ids.new.items) }
 {
     let Some(owners) = lists.get(&object) else {
         return Ok(());
     };
-    add_fewer(alloc, ids, passed, sources, object, owners, shared, local)
+    add_fewer(
+        alloc, ids, passed, gone, sources, object, owners, shared, local,
+    )
 }
 
 impl Published {
@@ -243,7 +319,7 @@ impl Published {
             kept: false,
             lists: IndexMap::new(alloc),
             places: Places::new(alloc),
-            id_count: 0,
+            gone: TakenFrom::new(alloc),
             passed: IndexMap::new(alloc),
         }
     }
@@ -270,7 +346,6 @@ impl Published {
         let Some(last) = shared.entry(at) else {
             return Ok(());
         };
-        self.id_count = self.id_count.saturating_add(1);
         add_on(
             self.alloc,
             &mut self.lists,
@@ -281,39 +356,22 @@ impl Published {
         )
     }
 
-    /// Whether the ids that left the shared log outnumber its entries by more than `FEW_IDS`.
-    fn is_outgrown(&self, entries: usize) -> bool {
-        self.id_count > entries.saturating_mul(2).saturating_add(FEW_IDS)
-    }
-
-    /// Lists all entries of the shared log, and nothing else. Nothing is passed then.
-    fn list_anew<S: Parted>(&mut self, shared: &Shared<S>) -> Result<(), OutOfMemory>
-        ensures kept { OnOk result ((publications self.new).kept ≡ true) }
-        ensures lists { Keeps S.place_of shared.now.1 (publications self.old)
-            (publications self.new) }
-    {
-        self.kept = false;
-        self.lists = IndexMap::new(self.alloc);
-        self.places = Places::new(self.alloc);
-        list_all(self.alloc, &mut self.lists, &mut self.places, shared)?;
-        self.id_count = shared.len();
-        self.passed = none_passed(self.alloc);
-        self.kept = true;
-        Ok(())
-    }
-
-    /// Begins to keep lists, of all entries of the shared log. If they are kept, it makes them anew
-    /// once the ids that left outnumber the entries by more than `FEW_IDS`. So fewer entries are
-    /// listed anew than ids left since the lists were made last.
+    /// Begins to keep lists, of all entries of the shared log. Nothing is passed then.
     pub fn keep<S: Parted>(&mut self, shared: &Shared<S>) -> Result<(), OutOfMemory>
         ensures kept { OnOk result ((publications self.new).kept ≡ true) }
         ensures lists { Keeps S.place_of shared.now.1 (publications self.old)
             (publications self.new) }
     {
-        if self.kept && !self.is_outgrown(shared.len()) {
+        if self.kept {
             return Ok(());
         }
-        self.list_anew(shared)
+        self.lists = IndexMap::new(self.alloc);
+        self.places = Places::new(self.alloc);
+        list_all(self.alloc, &mut self.lists, &mut self.places, shared)?;
+        self.gone = TakenFrom::new(self.alloc);
+        self.passed = none_passed(self.alloc);
+        self.kept = true;
+        Ok(())
     }
 
     /// Forgets what is known of an open transaction.
@@ -340,6 +398,8 @@ impl Published {
         ensures kept { (publications self.new).kept ≡ (publications self.old).kept }
         ensures ids { (v : NameOf) (o : ℕ) → (publications self.new).ids v o
             ≡ (publications self.old).ids v o }
+        ensures gone { (v : NameOf) (o : ℕ) → (publications self.new).gone v o
+            ≡ (publications self.old).gone v o }
         ensures passed { (u v : NameOf) (o : ℕ) →
             ((publications self.new).passed u v o ≡ (publications self.old).passed u v o)
             ⊎ (((u =ⁿ tx.now) ≡ true)
@@ -364,6 +424,8 @@ impl Published {
         ensures kept { (publications self.new).kept ≡ (publications self.old).kept }
         ensures ids { (v : NameOf) (o : ℕ) → (publications self.new).ids v o
             ≡ (publications self.old).ids v o }
+        ensures gone { (v : NameOf) (o : ℕ) → (publications self.new).gone v o
+            ≡ (publications self.old).gone v o }
         ensures passed { LowersPassed tx.now owner.now object (publications self.old)
             (publications self.new) }
         ensures here { (publications self.new).passed tx.now owner.now object ≤ most }
@@ -378,6 +440,8 @@ impl Published {
         ensures kept { (publications self.new).kept ≡ (publications self.old).kept }
         ensures ids { (v : NameOf) (o : ℕ) → (publications self.new).ids v o
             ≡ (publications self.old).ids v o }
+        ensures gone { (v : NameOf) (o : ℕ) → (publications self.new).gone v o
+            ≡ (publications self.old).gone v o }
         ensures passed { LowersPassed tx.now owner.now object (publications self.old)
             (publications self.new) }
         ensures again { (publications self.old).kept ≡ true →
@@ -408,6 +472,7 @@ impl Published {
         ensures kept { OnOk result ((i : ℕ) → In i ids.old.items → In i ids.new.items) }
         ensures added { OnOk result ((v : NameOf) → In v sources.now.keys →
             Adds local.now.1 shared.now.1 ((publications self.old).ids v object)
+            ((publications self.old).gone v object)
             ((publications self.old).passed tx.now v object) ids.new.items) }
     {
         let mut passed = self.take(tx);
@@ -415,6 +480,7 @@ impl Published {
             self.alloc,
             ids,
             &mut passed,
+            &mut self.gone,
             sources,
             object,
             &self.lists,

@@ -12,5 +12,5 @@ returns-clause-added g c =
     let more = c.add_rests-2.new.ids.items in
     on_ok c.add_rests-2.result c.add_rests-2.ensures.added (λ added v among. elim (c.in_ok-names.ensures v among) [
       | inl there ↦ added v (subst (λ w. In v w) (sym c.deref.ensures.value) there)
-      | inr none ↦ subst (λ w. Adds l G w (taken_in v c.args.passed.now c.args.object) more) (sym none) (adds_none l G (taken_in v c.args.passed.now c.args.object) more)
+      | inr none ↦ subst (λ w. Adds l G w (taken_in v c.args.gone.now c.args.object) (taken_in v c.args.passed.now c.args.object) more) (sym none) (adds_none l G (taken_in v c.args.gone.now c.args.object) (taken_in v c.args.passed.now c.args.object) more)
     ])

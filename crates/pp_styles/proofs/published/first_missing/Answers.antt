@@ -1,10 +1,10 @@
 use Rattle.std.proofs.Common.{arith}
-use Rattle.pp_styles.proofs.Looking.{gone_next}
+use Rattle.pp_styles.proofs.Looking.{Gone, true_next}
 use Rattle.pp_styles.proofs.published.first_missing.Goals as goal
 
 pub loop-at-preserved : goal.loop-at-preserved
 loop-at-preserved g c =
     let above = c.loop-at.invariant.0 in (
       omega arith,
-      gone_next c.args.local.now.1 c.args.shared.now.1 c.args.ids.now c.args.from c.loop-at.at _ (c.is_missing.ensures c.if-is_missing.false) c.loop-at.invariant.1,
+      true_next (Gone c.args.local.now.1 c.args.shared.now.1) c.args.ids.now c.args.from c.loop-at.at _ (c.is_missing.ensures c.if-is_missing.false) c.loop-at.invariant.1,
     )

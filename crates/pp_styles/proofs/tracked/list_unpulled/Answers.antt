@@ -14,5 +14,5 @@ returns g c =
     let q = publications c.give_back.new.self in
     let t = c.args.tx.now in
     let v = c.in-Some.entry.now.owner in
-    passes_back g.S.Placed.place_of c.args.shared.now.1 t c.args.id c.in-Some.entry.now c.in-Some.ensures.some c.place.result (sym c.place.ensures) c.in-Some.ensures.there p q c.give_back.ensures.kept c.give_back.ensures.ids c.give_back.ensures.passed
+    passes_back g.S.Placed.place_of c.args.shared.now.1 t c.args.id c.in-Some.entry.now c.in-Some.ensures.some c.place.result (sym c.place.ensures) c.in-Some.ensures.there p q c.give_back.ensures.kept c.give_back.ensures.ids c.give_back.ensures.gone c.give_back.ensures.passed
     (λ kept. subst (λ o. (q.passed t v o ≡ 0) ⊎ In c.args.id (drop (q.passed t v o) (p.ids v o))) c.place.ensures (c.give_back.ensures.again kept))
