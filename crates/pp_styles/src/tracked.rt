@@ -43,9 +43,6 @@ pub struct Tracked<S: Parted> {
     pulled: Box<Pulled>,
 }
 
-/// So many sources are always looked at.
-const FEW_SOURCES: usize = 64;
-
 impl<S: Parted> Model for Tracked<S> {
     ghost use Rattle.pp_machine.specs.Machines.{Seen};
     ghost use Rattle.pp_core.specs.TreeCodes.{tree_code};
@@ -228,7 +225,7 @@ fn list_after<S: Parted>(
 }
 
 /// Whether a walk over the shared log is shorter than a look at each source. A look costs as much as
-/// some four entries of a walk.
+/// two entries of a walk.
 fn is_walk_shorter<S: Parted>(
     published: &Published,
     object: u16,
@@ -236,7 +233,7 @@ fn is_walk_shorter<S: Parted>(
     shared: &Shared<S>,
 ) -> bool {
     let looks = published.owners_on(object).min(sources.len());
-    looks > FEW_SOURCES && looks.saturating_mul(4) > shared.len()
+    looks.saturating_mul(2) > shared.len()
 }
 
 /// As `Tracked::wanted`.
