@@ -5,6 +5,7 @@ use Rattle.std.proofs.lemmas.List.{append-nil}
 use Rattle.pp_core.specs.Catalogs.{Objects}
 use Rattle.pp_core.specs.Steps.{Step, Begin, App, Unapp, Push, Unpush, Pull, Unpull, Cmt, Quit, Note}
 use Rattle.pp_core.specs.declared.call.Kind.{Kind}
+use Rattle.pp_core.specs.declared.limits.TheConstants.{MOST_STEPS}
 use Rattle.pp_core.specs.declared.call.Style.TheVariants.{Rules}
 use Rattle.pp_records.proofs.Ends.{never, runs_back}
 use Rattle.pp_records.proofs.Restating.{plain_steps}
@@ -93,7 +94,7 @@ module _ (n : ℕ) (low : 1 ≤ n) (high : n ≤ 20_000) where
 
   -- ---- no step halts the machine
 
-  module _ (from to : ℕ) (new : Seen (List Kind) Op) (step : Step Op) (behind : List (Step Op)) (done : HasDone objects unmoved steps (step ∷ behind) new from to) where
+  module _ (from to : ℕ) (new : Seen (List Kind) Op) (step : Step Op) (behind : List (Step Op)) (done : HasDone MOST_STEPS objects unmoved steps (step ∷ behind) new from to) where
     meets : Meets drill_objects (after_from (first None) done.before) step
     meets =
         let rest = runs_back drill_objects (first None) done.before (step ∷ behind) (subst (λ (w : List (Step Op)). RunsFrom drill_objects (first None) w) done.parts hold) in
@@ -105,14 +106,14 @@ module _ (n : ℕ) (low : 1 ≤ n) (high : n ≤ 20_000) where
         never drill_objects (after_from (first None) done.before) step k meets
         (subst (λ (v : Seen (List Kind) Op). Breaks (rules_of objects v.shape) v.config step (suc k)) done.is b)
 
-    no_halt : (halt : Halt Op) → Halts objects new step halt → ⊥
+    no_halt : (halt : Halt Op) → Halts MOST_STEPS objects new step halt → ⊥
     no_halt (Failed rule k detail) h = breaks_none k h.2.1 h.2.0
     no_halt TooMany full =
         over new.count (length done.before) (length behind) (length steps) (ap (λ (v : Seen (List Kind) Op). v.count) done.is)
         (ap (λ (w : List (Step Op)). length w) done.parts ∙ length-append done.before (step ∷ behind)) (few n low high) full
 
   -- A machine that is driven through the steps of the run is halted by none: all are done.
-  pub all_done : (from to : ℕ) (new : Seen (List Kind) Op) (halt : Option (Halt Op)) → Drives objects unmoved steps from halt new to → HasDone objects unmoved steps [] new from to
+  pub all_done : (from to : ℕ) (new : Seen (List Kind) Op) (halt : Option (Halt Op)) → Drives MOST_STEPS objects unmoved steps from halt new to → HasDone MOST_STEPS objects unmoved steps [] new from to
   all_done from to new None d = d
   all_done from to new (Some halt) d = absurd (no_halt from to new d.0 d.1 d.2 halt d.3)
 
@@ -176,11 +177,11 @@ module _ (n : ℕ) (low : 1 ≤ n) (high : n ≤ 20_000) where
       subst (λ (h : Header). let t : Tally = record { header = h; lines = tally.lines; begins = tally.begins } in IsRunning (scanned n) t moved) (sym header_is) here
 
   module _ (from to : ℕ) (new : Seen (List Kind) Op) (halt : Option (Halt Op)) (machine : Seen (List Kind) Op) (list : List (Step Op)) (list_is : list ≡ steps) (machine_is : machine ≡ unmoved)
-      (drives : Drives objects machine list from halt new to) where
-    done : HasDone objects unmoved steps [] new from to
+      (drives : Drives MOST_STEPS objects machine list from halt new to) where
+    done : HasDone MOST_STEPS objects unmoved steps [] new from to
     done =
         all_done from to new halt
-        (subst (λ (m : Seen (List Kind) Op). Drives objects m steps from halt new to) machine_is (subst (λ (w : List (Step Op)). Drives objects machine w from halt new to) list_is drives))
+        (subst (λ (m : Seen (List Kind) Op). Drives MOST_STEPS objects m steps from halt new to) machine_is (subst (λ (w : List (Step Op)). Drives MOST_STEPS objects machine w from halt new to) list_is drives))
 
     all : done.before ≡ steps
     all = sym (done.parts ∙ append-nil done.before)
@@ -203,9 +204,9 @@ module _ (n : ℕ) (low : 1 ≤ n) (high : n ≤ 20_000) where
   -- ---- the cost of the run
 
   -- If the counter rose within the upper bound of the machine's steps, it is within that of the input.
-  pub counted_most : (from to : ℕ) (machine : Seen (List Kind) Op) (list : List (Step Op)) → list ≡ steps → machine ≡ unmoved → CostAtMost objects place_of machine list from to → StepsCostAtMost (drill_scan n) from to
+  pub counted_most : (from to : ℕ) (machine : Seen (List Kind) Op) (list : List (Step Op)) → list ≡ steps → machine ≡ unmoved → CostAtMost MOST_STEPS objects place_of machine list from to → StepsCostAtMost (drill_scan n) from to
   counted_most from to machine list list_is machine_is cost =
-      let b = subst (λ (m : Seen (List Kind) Op). CostAtMost objects place_of m steps from to) machine_is (subst (λ (w : List (Step Op)). CostAtMost objects place_of machine w from to) list_is cost) in
+      let b = subst (λ (m : Seen (List Kind) Op). CostAtMost MOST_STEPS objects place_of m steps from to) machine_is (subst (λ (w : List (Step Op)). CostAtMost MOST_STEPS objects place_of machine w from to) list_is cost) in
       let z : Config Op = first None in
       of_run n low high (λ start ss. to ≤ from + steps_at_most start ss)
       (no_more from to (most_ticks place_of z b.tried) (most_ticks place_of (after_from z b.tried) b.behind) (most_ticks place_of z (b.tried ++ b.behind)) (most_ticks place_of z steps) (steps_at_most None steps)

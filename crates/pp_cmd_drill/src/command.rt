@@ -12,7 +12,7 @@ ghost use Rattle.pp_cmd_drill.specs.Reports.{IsDrilled, drill_scan};
 use crate::objects::drill_catalog;
 use crate::pairs::drill_steps;
 use crate::report::drill_report;
-use pp_core::{Catalog, OutOfMemory, Status, Style, Text, Ticks};
+use pp_core::{Catalog, MOST_STEPS, OutOfMemory, Status, Style, Text, Ticks};
 use pp_format_read::Header;
 use pp_judge::{Tally, compute_states};
 use pp_machine::Machine;
@@ -53,7 +53,7 @@ fn machine_behind<L: Ledger>(
     let steps = drill_steps(alloc, n)?;
     let machine = first_machine(alloc, &catalog)?;
     // Each of these steps meets its criteria, so the machine takes all of them.
-    let (machine, _halt) = do_steps(machine, &steps, ticks)?;
+    let (machine, _halt) = do_steps(machine, &steps, MOST_STEPS, ticks)?;
     let count = machine.count();
     let header = Header {
         style: Style::Rules,

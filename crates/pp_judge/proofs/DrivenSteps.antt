@@ -5,6 +5,7 @@ use Rattle.std.proofs.Common.{refl, sym, ap, ◌∙◌, subst, arith}
 use Rattle.std.proofs.lemmas.List.{append-nil, take_all}
 use Rattle.pp_core.specs.Steps.{Step, meaning}
 use Rattle.pp_core.specs.declared.call.Kind.{Kind}
+use Rattle.pp_core.specs.declared.limits.TheConstants.{MOST_STEPS}
 use Rattle.pp_core.specs.declared.status.Status.TheVariants as statuses
 use Rattle.pp_core.specs.declared.step.Rule.{Rule}
 use Rattle.pp_core.specs.declared.step.Rule.TheVariants as rules
@@ -168,7 +169,7 @@ module _ {W : Type 0} (HasSeen : Header → LinedSteps Op → W → Type 0) wher
     TakenSo judged = Judges (driven_judging HasSeen) h judge r line judged now new
 
     taken_good : (front : AnyFront) (machine : Seen (List Kind) Op) → any_style front ≡ any_style judge.front
-        → SameFront (any_state (kinds_of h.catalog) front) (front_after (any_state (kinds_of h.catalog) judge.front) judge.machine.config r) → (done : HasDone objects judge.machine here [] machine now new)
+        → SameFront (any_state (kinds_of h.catalog) front) (front_after (any_state (kinds_of h.catalog) judge.front) judge.machine.config r) → (done : HasDone MOST_STEPS objects judge.machine here [] machine now new)
         → told ≡ done.before → TakenSo (Good (record { front = front; machine = machine; observer = next }))
     taken_good front machine style kept done first = record {
       is = λ at before good.
@@ -180,7 +181,7 @@ module _ {W : Type 0} (HasSeen : Header → LinedSteps Op → W → Type 0) wher
       least = λ at before good old least. least_done h before judge.front judge.machine good.0 line r at old now new least machine done;
     }
 
-    taken_bad : (rejection : Rejection) (e : FailsWithin judge.machine here line now new rejection) → told ≡ e.done.before ++ e.step ∷ []
+    taken_bad : (rejection : Rejection) (e : FailsWithin MOST_STEPS judge.machine here line now new rejection) → told ≡ e.done.before ++ e.step ∷ []
         → TakenSo (Rejected (record { rejection = rejection; observer = next }))
     taken_bad rejection e first = record {
       is = λ at before good.
@@ -197,29 +198,29 @@ module _ {W : Type 0} (HasSeen : Header → LinedSteps Op → W → Type 0) wher
         (kept : SameFront (any_state (kinds_of h.catalog) front) (front_after (any_state (kinds_of h.catalog) judge.front) judge.machine.config r)) (sound : Sound (rules_of objects machine.shape) machine.config)
         (done : ℕ) (first : told ≡ take (done + 1) here) (count : done + judge.machine.count ≡ machine.count) where
       -- so many steps are done
-      as_many : (rest : List (Step Op)) (d : HasDone objects judge.machine here rest machine now new) → done ≡ length d.before
+      as_many : (rest : List (Step Op)) (d : HasDone MOST_STEPS objects judge.machine here rest machine now new) → done ≡ length d.before
       as_many rest d =
           let same : machine.count ≡ judge.machine.count + length d.before = ap (λ (v : Seen (List Kind) Op). v.count) d.is in
           omega (arith, same, count)
 
-      judges_done : HasDone objects judge.machine here [] machine now new → TakenSo (Good (record { front = front; machine = machine; observer = next }))
+      judges_done : HasDone MOST_STEPS objects judge.machine here [] machine now new → TakenSo (Good (record { front = front; machine = machine; observer = next }))
       judges_done d =
           let all : here ≡ d.before = d.parts ∙ append-nil d.before in
           let same : length here ≡ length d.before = ap (λ (l : List (Step Op)). length l) all in
           let many : done ≡ length d.before = as_many [] d in
           taken_good front machine style kept d (first ∙ take_all (done + 1) here (omega (arith, same, many)) ∙ all)
 
-      judges_failed : (rule : Rule) (n : ℕ) (detail : Detail Op) → Drives objects judge.machine here now (Some (Failed rule n detail)) machine new
+      judges_failed : (rule : Rule) (n : ℕ) (detail : Detail Op) → Drives MOST_STEPS objects judge.machine here now (Some (Failed rule n detail)) machine new
           → TakenSo (Rejected (record { rejection = record { step = machine.count + 1; line = line; rule = rule; criterion = n; detail = detail }; observer = next }))
       unfolding fails
       judges_failed rule n detail d =
-          let e = fails judge.machine machine here now new line rule n detail sound d in
+          let e = fails MOST_STEPS judge.machine machine here now new line rule n detail sound d in
           let many : done ≡ length e.done.before = as_many (d.0 ∷ d.1) d.2 in
           taken_bad (record { step = machine.count + 1; line = line; rule = rule; criterion = n; detail = detail }) e
           (first ∙ ap (λ (l : List (Step Op)). take (done + 1) l) e.done.parts ∙ take_to (done + 1) e.done.before e.step e.behind (omega (arith, many)))
 
       -- A record whose steps drive the machine is judged by how they end: it is good with the new machine, or it is rejected.
-      pub judges : (halt : Option (Halt Op)) (rejection : Option Rejection) → Drives objects judge.machine here now halt machine new → rejection_on line machine.count halt ≡ Ok rejection
+      pub judges : (halt : Option (Halt Op)) (rejection : Option Rejection) → Drives MOST_STEPS objects judge.machine here now halt machine new → rejection_on line machine.count halt ≡ Ok rejection
           → TakenSo (judged_of front machine next rejection)
       judges None rejection d is =
           let same : None ≡ rejection = same_Ok None rejection is in
@@ -231,17 +232,17 @@ module _ {W : Type 0} (HasSeen : Header → LinedSteps Op → W → Type 0) wher
 
   module _ (h : Header) (judge : Driven W) (r : RunRecord Op) (line now new : ℕ) where
     -- If the counter is within the upper bound of a record's steps, it is within that of the record.
-    pub judges_most : CostAtMost objects place_of judge.machine (steps_here h judge.front judge.machine r) now new → CostsAtMostThere (driven_judging HasSeen) h judge r line now new
+    pub judges_most : CostAtMost MOST_STEPS objects place_of judge.machine (steps_here h judge.front judge.machine r) now new → CostsAtMostThere (driven_judging HasSeen) h judge r line now new
     judges_most cost at before good old most = most_record h before judge.front judge.machine good.0 line r at old now new most cost
 
-    judges_overrun : Overruns judge.machine (steps_here h judge.front judge.machine r) now new → HasFaultThere (driven_judging HasSeen) h judge r line TooManySteps
+    judges_overrun : Overruns MOST_STEPS judge.machine (steps_here h judge.front judge.machine r) now new → HasFaultThere (driven_judging HasSeen) h judge r line TooManySteps
     judges_overrun over at before good = overruns_there h before judge.front judge.machine good.0 r at line now new over
 
     -- a halt that is no rejection
-    pub stops_there : (machine : Seen (List Kind) Op) (halt : Option (Halt Op)) (stop : Stop Cause) → Drives objects judge.machine (steps_here h judge.front judge.machine r) now halt machine new
+    pub stops_there : (machine : Seen (List Kind) Op) (halt : Option (Halt Op)) (stop : Stop Cause) → Drives MOST_STEPS objects judge.machine (steps_here h judge.front judge.machine r) now halt machine new
         → rejection_on line machine.count halt ≡ Err stop → IfFault stop (λ at cause. (at ≡ line) × HasFaultThere (driven_judging HasSeen) h judge r line cause)
     stops_there machine None stop d is = absurd (cc)
     stops_there machine (Some TooMany) stop d is =
         subst (λ (w : Stop Cause). IfFault w (λ at cause. (at ≡ line) × HasFaultThere (driven_judging HasSeen) h judge r line cause)) (same_Err (stops.Fault line TooManySteps) stop is)
-        (refl, judges_overrun (too_many judge.machine machine (steps_here h judge.front judge.machine r) now new d))
+        (refl, judges_overrun (too_many MOST_STEPS judge.machine machine (steps_here h judge.front judge.machine r) now new d))
     stops_there machine (Some (Failed rule n detail)) stop d is = absurd (cc)

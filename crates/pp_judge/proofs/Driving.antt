@@ -1,10 +1,9 @@
--- The steps of a record, and what halts them.
+-- The steps of a record, and what halts them. The limit is on the steps of a run.
 use Rattle.std.specs.Prelude.{◌≡◌, ◌≤◌, ◌<◌, ◌+◌, ℕ, List, [], ◌∷◌, length, Option, None, Some}
 use Rattle.std.proofs.Common.{refl, ap, ◌∙◌, subst, arith}
 use mathlib.Core.Logic.{inl}
 use Rattle.pp_core.specs.Steps.{Step, rule_of}
 use Rattle.pp_core.specs.declared.call.Kind.{Kind}
-use Rattle.pp_core.specs.declared.limits.TheConstants.{MOST_STEPS}
 use Rattle.pp_core.specs.declared.step.Rule.{Rule}
 use Rattle.pp_records.specs.Expansions.{expand}
 use Rattle.pp_records.specs.Records.{RunRecord}
@@ -45,13 +44,13 @@ rejection_of machine step line n = record {
 
 -- Of these steps those before one are done, and that one is the first that does not meet its
 -- criteria.
-pub record FailsWithin (machine : Seen (List Kind) Op) (steps : List (Step Op)) (line from to : ℕ)
+pub record FailsWithin (limit : ℕ) (machine : Seen (List Kind) Op) (steps : List (Step Op)) (line from to : ℕ)
     (rejection : Rejection) : Type 0 where
   pub step : Step Op
   pub behind : List (Step Op)
   pub at : Seen (List Kind) Op
-  pub done : HasDone objects machine steps (step ∷ behind) at from to
-  pub few : at.count < MOST_STEPS
+  pub done : HasDone limit objects machine steps (step ∷ behind) at from to
+  pub few : at.count < limit
   pub criterion : ℕ
   pub some : 0 < criterion
   pub breaks : Breaks (rules_of objects at.shape) at.config step criterion
@@ -60,20 +59,20 @@ pub record FailsWithin (machine : Seen (List Kind) Op) (steps : List (Step Op)) 
   pub evident : IsStepEvident at.shape at.config step criterion
 
 -- Of these steps those before one are done, and a run may have no step more.
-pub record Overruns (machine : Seen (List Kind) Op) (steps : List (Step Op)) (from to : ℕ) :
+pub record Overruns (limit : ℕ) (machine : Seen (List Kind) Op) (steps : List (Step Op)) (from to : ℕ) :
     Type 0 where
   pub step : Step Op
   pub behind : List (Step Op)
   pub at : Seen (List Kind) Op
-  pub done : HasDone objects machine steps (step ∷ behind) at from to
-  pub full : at.count ≡ MOST_STEPS
+  pub done : HasDone limit objects machine steps (step ∷ behind) at from to
+  pub full : at.count ≡ limit
 
 -- ---- what halts them
 
-module _ (machine new : Seen (List Kind) Op) (steps : List (Step Op)) (from to : ℕ) where
+module _ (limit : ℕ) (machine new : Seen (List Kind) Op) (steps : List (Step Op)) (from to : ℕ) where
   -- one fails
-  unfoldable pub fails : (line : ℕ) (rule : Rule) (n : ℕ) (detail : Detail Op) → Sound (rules_of objects new.shape) new.config → Drives objects machine steps from (Some (Failed rule n detail)) new to
-      → FailsWithin machine steps line from to (record { step = new.count + 1; line = line; rule = rule; criterion = n; detail = detail })
+  unfoldable pub fails : (line : ℕ) (rule : Rule) (n : ℕ) (detail : Detail Op) → Sound (rules_of objects new.shape) new.config → Drives limit objects machine steps from (Some (Failed rule n detail)) new to
+      → FailsWithin limit machine steps line from to (record { step = new.count + 1; line = line; rule = rule; criterion = n; detail = detail })
   fails line rule n detail sound d =
       let step : Step Op = d.0 in
       let effect = d.3.2 in
@@ -94,27 +93,27 @@ module _ (machine new : Seen (List Kind) Op) (steps : List (Step Op)) (from to :
       }
 
   -- a run may have no more
-  pub too_many : Drives objects machine steps from (Some TooMany) new to → Overruns machine steps from to
+  pub too_many : Drives limit objects machine steps from (Some TooMany) new to → Overruns limit machine steps from to
   too_many d = record { step = d.0; behind = d.1; at = new; done = d.2; full = d.3 }
 
-  -- A machine that is driven through steps has counted at most 200,000 steps.
-  pub few_there : (halt : Option (Halt Op)) → Drives objects machine steps from halt new to → new.count ≤ 200_000
+  -- A machine that is driven through steps has counted no more of them than a run may have.
+  pub few_there : (halt : Option (Halt Op)) → Drives limit objects machine steps from halt new to → new.count ≤ limit
   few_there None d = d.few
   few_there (Some halt) d = d.2.few
 
-  more_there : (rest : List (Step Op)) → HasDone objects machine steps rest new from to → machine.count ≤ new.count
+  more_there : (rest : List (Step Op)) → HasDone limit objects machine steps rest new from to → machine.count ≤ new.count
   more_there rest d =
       let same : new.count ≡ machine.count + length d.before = ap (λ (v : Seen (List Kind) Op). v.count) d.is in
       omega (arith, same)
 
   -- no step is taken back
-  pub no_fewer_there : (halt : Option (Halt Op)) → Drives objects machine steps from halt new to → machine.count ≤ new.count
+  pub no_fewer_there : (halt : Option (Halt Op)) → Drives limit objects machine steps from halt new to → machine.count ≤ new.count
   no_fewer_there None d = more_there [] d
   no_fewer_there (Some halt) d = more_there (d.0 ∷ d.1) d.2
 
 -- if no step is tried
-pub untried : (machine : Seen (List Kind) Op) (steps : List (Step Op)) (from : ℕ) → machine.count ≤ MOST_STEPS → CostAtMost objects place_of machine steps from from
-untried machine steps from few =
+pub untried : (limit : ℕ) (machine : Seen (List Kind) Op) (steps : List (Step Op)) (from : ℕ) → machine.count ≤ limit → CostAtMost limit objects place_of machine steps from from
+untried limit machine steps from few =
     record {
       before = [];
       tried = [];
@@ -122,7 +121,7 @@ untried machine steps from few =
       parts = refl;
       hold = tt;
       last = inl refl;
-      few = no_step machine.count MOST_STEPS few;
+      few = no_step machine.count limit few;
       most = no_tick from;
     }
   where

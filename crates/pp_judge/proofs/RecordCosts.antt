@@ -5,6 +5,7 @@ use Rattle.std.proofs.Common.{refl, sym, ap, ◌∙◌, subst, arith, length-app
 use Rattle.std.proofs.lemmas.List.{append-nil}
 use mathlib.Core.Logic.{inl, inr}
 use Rattle.pp_core.specs.declared.call.Kind.{Kind}
+use Rattle.pp_core.specs.declared.limits.TheConstants.{MOST_STEPS}
 use Rattle.pp_core.specs.Steps.{Step}
 use Rattle.pp_core.specs.declared.status.Status.TheVariants as statuses
 use Rattle.pp_records.specs.Records.{RunRecord}
@@ -41,11 +42,12 @@ plus_more a b d = omega arith
 
 -- ---- numbers
 
--- a bound, and some steps more
-more_most : (old now new m m1 k k1 w : ℕ) → new ≤ now + w → now ≤ old + k → k ≡ m → k1 ≡ m1 → m1 ≡ m + w → new ≤ old + k1
+-- Within one bound more, the counter is within the sum of the bounds.
+pub more_most : (old now new m m1 k k1 w : ℕ) → new ≤ now + w → now ≤ old + k → k ≡ m → k1 ≡ m1 → m1 ≡ m + w → new ≤ old + k1
 more_most old now new m m1 k k1 w a b c d e = omega (arith, a, b, c, d, e)
 
-more_least : (old now new a b k : ℕ) → old + a ≤ now → now + b ≤ new → k ≡ a + b → old + k ≤ new
+-- If it rises by at least two numbers in turn, it rises by at least their sum.
+pub more_least : (old now new a b k : ℕ) → old + a ≤ now → now + b ≤ new → k ≡ a + b → old + k ≤ new
 more_least old now new a b k x y z = omega (arith, x, y, z)
 
 still_few : (n a b most : ℕ) → n ≡ a → a + b ≤ most → n + b ≤ most
@@ -62,8 +64,8 @@ but_last_end [] x = refl
 but_last_end (y ∷ []) x = refl
 but_last_end (y ∷ z ∷ ys) x = ap (λ (l : List (Step Op)). y ∷ l) (but_last_end (z ∷ ys) x)
 
--- a run that ends with steps on one line
-bare_last : (line : ℕ) (xs : LinedSteps Op) (ys : List (Step Op)) (run : LinedSteps Op) → run ≡ xs ++ on_line line ys → bare run ≡ bare xs ++ ys
+-- The bare steps of a run that ends with steps on one line end with those steps.
+pub bare_last : (line : ℕ) (xs : LinedSteps Op) (ys : List (Step Op)) (run : LinedSteps Op) → run ≡ xs ++ on_line line ys → bare run ≡ bare xs ++ ys
 bare_last line xs ys run is =
     ap (λ (w : LinedSteps Op). bare w) is ∙ bare_append_on_line line xs ys
 
@@ -91,8 +93,8 @@ module _ {State : Type 0} (O : Object Op State) (line : ℕ) where
   one_first c s behind run (inl e) = ([], ap (λ (w : LinedSteps Op). bare w) e.2)
   one_first c s behind run (inr e) = (bare e.1.0, ap (λ (w : LinedSteps Op). bare w) e.1.2)
 
-  -- those that were tried are first
-  tried_first : (c : Config Op) (before tried behind : List (Step Op)) (run : LinedSteps Op) → RunsFrom O c before → (tried ≡ before) ⊎ ((step : Step Op) × (tried ≡ before ++ step ∷ []))
+  -- The run of steps that were tried, and of others after them, begins with those that were tried.
+  pub tried_first : (c : Config Op) (before tried behind : List (Step Op)) (run : LinedSteps Op) → RunsFrom O c before → (tried ≡ before) ⊎ ((step : Step Op) × (tried ≡ before ++ step ∷ []))
       → EndsAtFailure O c (on_line line (tried ++ behind) ++ []) run → (more : List (Step Op)) × (bare run ≡ tried ++ more)
   tried_first c before tried behind run hold (inl e) ends =
       let k = stand_first c before behind run hold (subst (λ (w : List (Step Op)). EndsAtFailure O c (on_line line (w ++ behind) ++ []) run) e ends) in
@@ -106,15 +108,15 @@ module _ {State : Type 0} (O : Object Op State) (line : ℕ) where
         bare_first line before k.0 run k.2 ∙ ap (λ (w : List (Step Op)). before ++ w) last.1 ∙ sym (append_assoc before (s ∷ []) last.0) ∙ ap (λ (w : List (Step Op)). w ++ last.0) (sym one.1),
       )
 
-  -- if all hold, they are the run
-  whole_run : (c : Config Op) (steps before : List (Step Op)) (run : LinedSteps Op) → RunsFrom O c before → steps ≡ before ++ [] → EndsAtFailure O c (on_line line steps ++ []) run → run ≡ on_line line before
+  -- If all steps meet their criteria, they are the run.
+  pub whole_run : (c : Config Op) (steps before : List (Step Op)) (run : LinedSteps Op) → RunsFrom O c before → steps ≡ before ++ [] → EndsAtFailure O c (on_line line steps ++ []) run → run ≡ on_line line before
   whole_run c steps before run hold parts ends =
       let k = stand_first c before [] run hold (subst (λ (w : List (Step Op)). EndsAtFailure O c (on_line line w ++ []) run) parts ends) in
       let none : k.0 ≡ [] = k.1 in
       k.2 ∙ ap (λ (w : LinedSteps Op). on_line line before ++ w) none ∙ append-nil (on_line line before)
 
-  -- if one fails after those that hold, the run ends with it
-  failed_run : (c : Config Op) (steps before behind : List (Step Op)) (s : Step Op) (n : ℕ) (run : LinedSteps Op) → RunsFrom O c before → steps ≡ before ++ s ∷ behind → Breaks O (after_from c before) s (suc n)
+  -- If a step fails after steps that meet their criteria, the run ends with it.
+  pub failed_run : (c : Config Op) (steps before behind : List (Step Op)) (s : Step Op) (n : ℕ) (run : LinedSteps Op) → RunsFrom O c before → steps ≡ before ++ s ∷ behind → Breaks O (after_from c before) s (suc n)
       → EndsAtFailure O c (on_line line steps ++ []) run → run ≡ on_line line (before ++ s ∷ [])
   failed_run c steps before behind s n run hold parts breaks ends =
       let k = stand_first c before (s ∷ behind) run hold (subst (λ (w : List (Step Op)). EndsAtFailure O c (on_line line w ++ []) run) parts ends) in
@@ -150,7 +152,7 @@ module _ (h : Header) (rs : Records (RunRecord Op)) (front : AnyFront) (machine 
   size = length_bare so_far ∙ sym c.stands.number
 
   -- Within the upper bounds of the steps before a record and of its own, the counter is within the bound of both.
-  pub most_record : (at old now new : ℕ) → StepsCostAtMost (scan_of (headed at h) rs) old now → CostAtMost objects place_of machine (steps_here h front machine r) now new → StepsCostAtMost (scan_of (headed at h) (one_more rs line r)) old new
+  pub most_record : (at old now new : ℕ) → StepsCostAtMost (scan_of (headed at h) rs) old now → CostAtMost MOST_STEPS objects place_of machine (steps_here h front machine r) now new → StepsCostAtMost (scan_of (headed at h) (one_more rs line r)) old new
   most_record at old now new most b = λ run is.
       let s = start_of h in
       let O = object_of h in
@@ -183,7 +185,7 @@ module _ (h : Header) (rs : Records (RunRecord Op)) (front : AnyFront) (machine 
       more_least old now new (singles xs) (singles before) (singles (xs ++ before)) here cost (singles_append xs before)
 
   -- the run with this record, if each of its steps is done
-  pub done_run : (now new : ℕ) (v : Seen (List Kind) Op) (done : HasDone objects machine (steps_here h front machine r) [] v now new) (run : LinedSteps Op)
+  pub done_run : (now new : ℕ) (v : Seen (List Kind) Op) (done : HasDone MOST_STEPS objects machine (steps_here h front machine r) [] v now new) (run : LinedSteps Op)
       → IsRun (object_of h) (translation_of h) (start_of h) (rs ++ on_record line r ∷ []) run → run ≡ so_far ++ on_line line done.before
   done_run now new v done run is =
       let k = record_run run is in
@@ -191,7 +193,7 @@ module _ (h : Header) (rs : Records (RunRecord Op)) (front : AnyFront) (machine 
       k.2 ∙ ap (λ (w : LinedSteps Op). so_far ++ w) there
 
   -- and if one fails
-  pub run_to_failed : (now new : ℕ) (rejection : Rejection) (e : FailsWithin machine (steps_here h front machine r) line now new rejection) (run : LinedSteps Op)
+  pub run_to_failed : (now new : ℕ) (rejection : Rejection) (e : FailsWithin MOST_STEPS machine (steps_here h front machine r) line now new rejection) (run : LinedSteps Op)
       → IsRun (object_of h) (translation_of h) (start_of h) (rs ++ on_record line r ∷ []) run → run ≡ so_far ++ on_line line (e.done.before ++ e.step ∷ [])
   run_to_failed now new rejection e run is = go e.criterion e.some e.breaks
     where
@@ -210,12 +212,12 @@ module _ (h : Header) (rs : Records (RunRecord Op)) (front : AnyFront) (machine 
     here_least = least so_far (run_there h rs front machine c)
 
     -- If all steps of the record are done, the lower bound of the steps before it becomes one of the steps with it.
-    pub least_done : (v : Seen (List Kind) Op) → HasDone objects machine (steps_here h front machine r) [] v now new → StepsCostAtLeast statuses.Accepted (scan_of (headed at h) (one_more rs line r)) old new
+    pub least_done : (v : Seen (List Kind) Op) → HasDone MOST_STEPS objects machine (steps_here h front machine r) [] v now new → StepsCostAtLeast statuses.Accepted (scan_of (headed at h) (one_more rs line r)) old new
     least_done v done run is =
         subst (λ (w : List (Step Op)). old + singles w ≤ new) (sym (bare_last line so_far done.before run (done_run now new v done run is))) (least_more old now new done.before here_least done.least)
 
     -- If a step of the record fails, the lower bound of the steps before it becomes one of the rejected run.
-    pub least_failed : (rejection : Rejection) → FailsWithin machine (steps_here h front machine r) line now new rejection → StepsCostAtLeast statuses.Rejected (scan_of (headed at h) (one_more rs line r)) old new
+    pub least_failed : (rejection : Rejection) → FailsWithin MOST_STEPS machine (steps_here h front machine r) line now new rejection → StepsCostAtLeast statuses.Rejected (scan_of (headed at h) (one_more rs line r)) old new
     least_failed rejection e run is =
         let done : List (Step Op) = bare so_far ++ e.done.before in
         let whole : bare run ≡ done ++ e.step ∷ [] =

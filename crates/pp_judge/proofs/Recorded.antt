@@ -8,6 +8,7 @@ use Rattle.std.proofs.Math.Seq.{get_or-append_seam, take-append_seam}
 use mathlib.Core.Logic.{inl}
 use Rattle.pp_core.specs.Steps.{Step, rule_of}
 use Rattle.pp_core.specs.declared.call.Kind.{Kind}
+use Rattle.pp_core.specs.declared.limits.TheConstants.{MOST_STEPS}
 use Rattle.pp_core.specs.declared.call.Style.{Style}
 use Rattle.pp_records.specs.Expansions.{expand, front_after}
 use Rattle.pp_records.specs.Inputs.{OverrunsAt}
@@ -81,7 +82,7 @@ module _ (h : Header) (rs : Records (RunRecord Op)) (front : AnyFront) (machine 
 
   -- If the steps of one more record are all done, the run goes on with the new machine and front.
   pub goes_on : (line : ℕ) (next : AnyFront) (new : Seen (List Kind) Op) (from to : ℕ) → any_style next ≡ any_style front → SameFront (any_state (kinds_of h.catalog) next) (front_after (any_state (kinds_of h.catalog) front) machine.config r)
-      → HasDone objects machine (steps_here h front machine r) [] new from to → GoesOn h (one_more rs line r) next new
+      → HasDone MOST_STEPS objects machine (steps_here h front machine r) [] new from to → GoesOn h (one_more rs line r) next new
   goes_on line next new from to style kept done =
       let all : done.before ≡ steps_there = sym (sym same_steps ∙ done.parts ∙ append-nil done.before) in
       let is : new ≡ after_steps machine steps_there = done.is ∙ ap (λ (w : List (Step Op)). after_steps machine w) all in
@@ -173,7 +174,7 @@ module _ (h : Header) (rs : Records (RunRecord Op)) (front : AnyFront) (machine 
         (reading_law (object_of h) (translation_of h)).too_many (start_of h) rs [] (standing_of c.state machine) machine.count (on_record line r) before behind step c.stands parts_there (hold_there before hold) full
 
   -- If a step of one more record fails, the run ends with its rejection.
-  pub ends_there : (at line from to : ℕ) (rejection : Rejection) → FailsWithin machine (steps_here h front machine r) line from to rejection → EndsAt h at (one_more rs line r) rejection
+  pub ends_there : (at line from to : ℕ) (rejection : Rejection) → FailsWithin MOST_STEPS machine (steps_here h front machine r) line from to rejection → EndsAt h at (one_more rs line r) rejection
   ends_there at line from to rejection e = go e.at e.criterion e.done.is e.few e.some e.breaks e.is e.fits e.evident
     where
       shown : (v : Seen (List Kind) Op) (n : ℕ) → v ≡ after_steps machine e.done.before → v.count < 200_000 → Breaks (rules_of objects v.shape) v.config e.step (suc n) → Fits objects v.shape (evidence objects v.shape v.config e.step (suc n)) → IsStepEvident v.shape v.config e.step (suc n)
@@ -191,7 +192,7 @@ module _ (h : Header) (rs : Records (RunRecord Op)) (front : AnyFront) (machine 
           subst (λ (w : Rejection). EndsAt h at (one_more rs line r) w) (sym told) (shown v n is few breaks fits evident)
 
   -- If the steps of one more record are too many, the input has that fault on the record's line.
-  pub overruns_there : (at line from to : ℕ) → Overruns machine (steps_here h front machine r) from to → IsFaultOf (scan_of (headed at h) (one_more rs line r)) (Some (line, TooManySteps))
+  pub overruns_there : (at line from to : ℕ) → Overruns MOST_STEPS machine (steps_here h front machine r) from to → IsFaultOf (scan_of (headed at h) (one_more rs line r)) (Some (line, TooManySteps))
   overruns_there at line from to e =
       let full : machine.count + length e.done.before ≡ 200_000 = subst (λ (v : Seen (List Kind) Op). v.count ≡ 200_000) e.done.is e.full in
       inl (line, too_many_here line e.done.before e.behind e.step e.done.parts e.done.hold at full, refl)

@@ -13,7 +13,7 @@ ghost use Rattle.pp_judge.specs.Running.{HasStarted, IsFirstFront, rejection_on}
 use crate::judge::{Judge, Judged};
 use crate::observer::Observer;
 use crate::record_steps::{make_steps, steps_of};
-use pp_core::{OutOfMemory, Rule, Step, Ticks};
+use pp_core::{MOST_STEPS, OutOfMemory, Rule, Step, Ticks};
 use pp_format_read::Header;
 use pp_input::Limits;
 use pp_input_reader::{Cause, Stop};
@@ -88,7 +88,7 @@ pub fn start_machine<L: Ledger>(
 }
 
 /// The front of the style of a header, which keeps nothing yet.
-fn first_front(alloc: Global, header: &Header) -> Result<BoxedFront, OutOfMemory>
+pub fn first_front(alloc: Global, header: &Header) -> Result<BoxedFront, OutOfMemory>
     ensures { IfOk result (IsFirstFront header.now) }
 {
     let kinds = header.catalog.kinds(alloc)?;
@@ -97,12 +97,11 @@ fn first_front(alloc: Global, header: &Header) -> Result<BoxedFront, OutOfMemory
 
 /// What a halt after so many steps of a run is, if the record on this line halts it: the rejection
 /// of the next step, or the fault that there are too many.
-fn rejection_on(
+pub fn rejection_on(
     line: u32,
     count: u32,
     halt: Option<Halt<Op>>,
 ) -> Result<Option<Rejection>, Stop<Cause>>
-    requires { count ≤ MOST_STEPS }
     ensures { result ≡ rejection_on line count halt }
 {
     match halt {
@@ -221,7 +220,7 @@ impl<W: Observer> Judge for Driven<W> {
         let before = machine.count();
         let made = make_steps(&mut front, recorded, &mut machine)?;
         let steps = steps_of(recorded, &made);
-        let (machine, halt) = do_steps(machine, steps, ticks)?;
+        let (machine, halt) = do_steps(machine, steps, MOST_STEPS, ticks)?;
         let count = machine.count();
         let rejection = rejection_on(line, count, halt)?;
         let observer = observer.see(alloc, header, line, tried(steps, count - before))?;

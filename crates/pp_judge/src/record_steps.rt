@@ -16,7 +16,7 @@ use pp_styles::{BoxedFront, Front, StepList, Tracked};
 use std::slice;
 
 /// The list of the steps that a record becomes. It makes none if the record is a step itself.
-pub(crate) fn make_steps(
+pub fn make_steps(
     front: &mut BoxedFront,
     recorded: &RunRecord<Op>,
     machine: &mut Tracked<Objects>,
@@ -40,10 +40,7 @@ pub(crate) fn make_steps(
 }
 
 /// The steps of a record: those of this list, if there is one, or else the record itself.
-pub(crate) fn steps_of<'a>(
-    recorded: &'a RunRecord<Op>,
-    made: &'a Option<StepList<Op>>,
-) -> &'a [Step<Op>]
+pub fn steps_of<'a>(recorded: &'a RunRecord<Op>, made: &'a Option<StepList<Op>>) -> &'a [Step<Op>]
     ensures { meanings result.now ≡ steps_given (record_meaning recorded.now) made.now }
 {
     if let Some(list) = made {

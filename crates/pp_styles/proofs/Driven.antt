@@ -1,15 +1,13 @@
 -- How far a machine was driven, from step to step.
-use Rattle.std.proofs.Common.{◌≡◌, ◌≢◌, ◌<◌, ◌≤◌, ◌+◌, ℕ, zero, suc, Bool, false, List, [], ◌∷◌, ◌++◌}
+use Rattle.std.proofs.Common.{◌≡◌, ◌≢◌, ◌<◌, ◌≤◌, ◌+◌, ℕ, zero, suc, List, [], ◌∷◌, ◌++◌}
 use Rattle.std.proofs.Common.{length, map, drop, filter, Option, None, Some, refl, sym, ap, subst, ◌∙◌}
-use Rattle.std.proofs.Common.{arith, inl, inr, append_assoc, length-append, true≢false}
-use Rattle.std.specs.Prelude.{IsTrue}
+use Rattle.std.proofs.Common.{arith, inl, inr, append_assoc, length-append}
 use Rattle.std.specs.List.{slice_get}
 use Rattle.std.proofs.lemmas.List.{drop_all}
 use Rattle.std.proofs.lemmas.List.Elements.{filter-append}
 use Rattle.std.proofs.lemmas.Option.{same_Some}
 use Rattle.pp_core.specs.Steps.{Step, Begin, App, Unapp, Push, Unpush, Pull, Unpull, Cmt, Quit, Note}
 use Rattle.pp_core.specs.Steps.{meaning, rule_of}
-use Rattle.pp_core.specs.declared.limits.TheConstants.{MOST_STEPS}
 use Rattle.pp_core.specs.declared.step.Step.{Step as StepOf}
 use Rattle.pp_model.specs.Config.{Config, after_from, then}
 use Rattle.pp_model.specs.Lists.{In}
@@ -86,11 +84,8 @@ adds_most : (from now to a w k : ℕ) → now ≤ from + a → to ≤ now + w �
 adds_most from now to a w k x y z = omega (arith, x, y, z)
 
 -- a run may have one step more
-pub below : (m r most : ℕ) (full : Bool) → m ≤ most → r ≡ m → (r ≡ most → IsTrue full) → full ≡ false → m < most
-below m r most full le same told may = less (λ (e : r ≡ most). true≢false (sym (told e) ∙ may))
-  where
-    less : r ≢ most → m < most
-    less other = omega (arith, le, same, other)
+pub below : (m r limit : ℕ) → m ≤ limit → r ≡ m → r ≢ limit → m < limit
+below m r limit le same other = omega (arith, le, same, other)
 
 -- ---- costs
 
@@ -138,14 +133,14 @@ module _ {Op : Type 0} where
 
 -- ---- a walk over the steps
 
-module _ {Shape State Op Undo : Type 0} (o : Object Shape State Op Undo) (place : Op → ℕ) (old : Seen Shape Op) (steps : List (Step Op)) (from : ℕ) where
+module _ (limit : ℕ) {Shape State Op Undo : Type 0} (o : Object Shape State Op Undo) (place : Op → ℕ) (old : Seen Shape Op) (steps : List (Step Op)) (from : ℕ) where
   -- so far these were done, and cost this at most
   pub record SoFar (rest : List (Step Op)) (mid : Seen Shape Op) (now : ℕ) : Type 0 where
-    pub done : HasDone o old steps rest mid from now
+    pub done : HasDone limit o old steps rest mid from now
     pub most : now ≤ from + most_ticks place old.config done.before
 
   -- At first none of the steps is done, and none has cost a tick.
-  pub at_first : old.count ≤ MOST_STEPS → SoFar steps old from
+  pub at_first : old.count ≤ limit → SoFar steps old from
   at_first few =
       record {
         done = record {
@@ -187,10 +182,10 @@ module _ {Shape State Op Undo : Type 0} (o : Object Shape State Op Undo) (place 
         }
 
     -- a run may have no step more
-    pub full_there : mid.count ≡ MOST_STEPS → Drives o old steps from (Some TooMany) mid now
+    pub full_there : mid.count ≡ limit → Drives limit o old steps from (Some TooMany) mid now
     full_there full = (s, rest, so.done, full)
 
-    module _ (few : mid.count < MOST_STEPS) where
+    module _ (few : mid.count < limit) where
       goes_on : Meets (rules_of o mid.shape) mid.config s → new ≡ stepped mid s → CostsDone place mid.config s now to → to ≤ now + at_most place mid.config s → SoFar rest new to
       goes_on meets is least most =
           record {
@@ -200,14 +195,14 @@ module _ {Shape State Op Undo : Type 0} (o : Object Shape State Op Undo) (place 
               hold = runs_append (rules_of o old.shape) old.config so.done.before (s ∷ []) so.done.hold
                   (subst (λ (v : Seen Shape Op). Meets (rules_of o v.shape) v.config s) so.done.is meets, tt);
               is = is ∙ ap (λ (v : Seen Shape Op). stepped v s) so.done.is ∙ led;
-              few = one_more new.count mid.count MOST_STEPS (ap (λ (v : Seen Shape Op). v.count) is) few;
+              few = one_more new.count mid.count limit (ap (λ (v : Seen Shape Op). v.count) is) few;
               least = adds_least from now to (singles so.done.before) (singles (s ∷ [])) (singles (so.done.before ++ s ∷ [])) so.done.least (done_least place mid.config s now to least)
                   (singles_append so.done.before (s ∷ []));
             };
             most = adds_most from now to (most_ticks place old.config so.done.before) (at_most place mid.config s) (most_ticks place old.config (so.done.before ++ s ∷ [])) so.most most cost;
           }
 
-      fails : (n : ℕ) (detail : Detail Op) → Stepped o mid s (False n detail) new → CostsInVain place mid.config s now to → IsShown o mid s (False n detail) → Drives o old steps from (Some (Failed (rule_of s) n detail)) new to
+      fails : (n : ℕ) (detail : Detail Op) → Stepped o mid s (False n detail) new → CostsInVain place mid.config s now to → IsShown o mid s (False n detail) → Drives limit o old steps from (Some (Failed (rule_of s) n detail)) new to
       fails n detail effect least shown =
           let is : new ≡ mid = effect.2 in (
             s,
@@ -217,10 +212,10 @@ module _ {Shape State Op Undo : Type 0} (o : Object Shape State Op Undo) (place 
               parts = so.done.parts;
               hold = so.done.hold;
               is = is ∙ so.done.is;
-              few = subst (λ (v : Seen Shape Op). v.count ≤ MOST_STEPS) (sym is) so.done.few;
+              few = subst (λ (v : Seen Shape Op). v.count ≤ limit) (sym is) so.done.few;
               least = still_least from now to (singles so.done.before) so.done.least (vain_least place mid.config s now to least);
             },
-            subst (λ (v : Seen Shape Op). Halts o v s (Failed (rule_of s) n detail)) (sym is) (few, refl, (effect.0, effect.1, refl, effect.3), shown),
+            subst (λ (v : Seen Shape Op). Halts limit o v s (Failed (rule_of s) n detail)) (sym is) (few, refl, (effect.0, effect.1, refl, effect.3), shown),
           )
 
       -- the step is done
@@ -229,12 +224,12 @@ module _ {Shape State Op Undo : Type 0} (o : Object Shape State Op Undo) (place 
       went_on (False n detail) is effect cost most = absurd (cc)
 
       -- it fails
-      pub halted : (outcome : Outcome Op) (halt : Halt Op) → halt_of s outcome ≡ Some halt → Stepped o mid s outcome new → CostsBy place mid.config s outcome now to → IsShown o mid s outcome → Drives o old steps from (Some halt) new to
+      pub halted : (outcome : Outcome Op) (halt : Halt Op) → halt_of s outcome ≡ Some halt → Stepped o mid s outcome new → CostsBy place mid.config s outcome now to → IsShown o mid s outcome → Drives limit o old steps from (Some halt) new to
       halted Done halt is effect cost shown = absurd (cc)
-      halted (False n detail) halt is effect cost shown = subst (λ (w : Option (Halt Op)). Drives o old steps from w new to) is (fails n detail effect cost shown)
+      halted (False n detail) halt is effect cost shown = subst (λ (w : Option (Halt Op)). Drives limit o old steps from w new to) is (fails n detail effect cost shown)
 
       -- it is tried
-      pub tried : to ≤ now + at_most place mid.config s → CostAtMost o place old steps from to
+      pub tried : to ≤ now + at_most place mid.config s → CostAtMost limit o place old steps from to
       tried most =
           record {
             before = so.done.before;
@@ -243,12 +238,12 @@ module _ {Shape State Op Undo : Type 0} (o : Object Shape State Op Undo) (place 
             parts = whole;
             hold = so.done.hold;
             last = inr (s, refl);
-            few = with_one old.count (length so.done.before) (length (so.done.before ++ s ∷ [])) mid.count MOST_STEPS number few longer;
+            few = with_one old.count (length so.done.before) (length (so.done.before ++ s ∷ [])) mid.count limit number few longer;
             most = adds_most from now to (most_ticks place old.config so.done.before) (at_most place mid.config s) (most_ticks place old.config (so.done.before ++ s ∷ [])) so.most most cost;
           }
 
   -- no other is tried
-  pub only_these : (rest : List (Step Op)) (mid : Seen Shape Op) (now : ℕ) → SoFar rest mid now → CostAtMost o place old steps from now
+  pub only_these : (rest : List (Step Op)) (mid : Seen Shape Op) (now : ℕ) → SoFar rest mid now → CostAtMost limit o place old steps from now
   only_these rest mid now so =
       record {
         before = so.done.before;
@@ -257,6 +252,6 @@ module _ {Shape State Op Undo : Type 0} (o : Object Shape State Op Undo) (place 
         parts = so.done.parts;
         hold = so.done.hold;
         last = inl refl;
-        few = not_more old.count (length so.done.before) mid.count MOST_STEPS (ap (λ (v : Seen Shape Op). v.count) so.done.is) so.done.few;
+        few = not_more old.count (length so.done.before) mid.count limit (ap (λ (v : Seen Shape Op). v.count) so.done.is) so.done.few;
         most = so.most;
       }

@@ -1,14 +1,13 @@
 //! Driving a machine through the steps of a record.
-ghost use Rattle.std.specs.Prelude.{◌≡◌, ◌≤◌, ◌↔◌, IfOk, IsTrue};
+ghost use Rattle.std.specs.Prelude.{◌≡◌, ◌≤◌, IfOk};
 ghost use Rattle.pp_core.specs.Steps.{Step as StepOf, meaning};
-ghost use Rattle.pp_core.specs.declared.limits.TheConstants.{MOST_STEPS};
 ghost use Rattle.pp_model.specs.Lists.{In};
 ghost use Rattle.pp_machine.specs.Stepping.{IsAsked};
 ghost use Rattle.pp_styles.specs.Driving.{CostAtMost, Drives, halt_of};
 ghost use Rattle.pp_styles.specs.Meanings.{meanings};
 
 use crate::tracked::Tracked;
-use pp_core::{MOST_STEPS, OutOfMemory, Rule, Step, Ticks, rule_of};
+use pp_core::{OutOfMemory, Rule, Step, Ticks, rule_of};
 use pp_kind::Parted;
 use pp_machine::{Detail, Outcome};
 use std::sync::ledger::Ledger;
@@ -26,13 +25,6 @@ pub enum Halt<O> {
     TooMany,
 }
 
-/// Whether a run of so many steps may have no step more.
-fn is_full(count: u32) -> bool
-    ensures { IsTrue result ↔ (count ≡ MOST_STEPS) }
-{
-    count == MOST_STEPS
-}
-
 /// Why a machine halts at a step with this outcome, if it does.
 fn halt_of<O>(step: &Step<O>, outcome: Outcome<O>) -> Option<Halt<O>>
     ensures { result ≡ halt_of (meaning step.now) outcome }
@@ -47,23 +39,25 @@ fn halt_of<O>(step: &Step<O>, outcome: Outcome<O>) -> Option<Halt<O>>
     }
 }
 
-/// Does the steps up to the first that fails, and no more than a run may have. The only error is
-/// that memory was refused, and the machine is then lost.
+/// Does the steps up to the first that fails, and no more than a run may have, by this limit. The
+/// only error is that memory was refused, and the machine is then lost.
 pub fn do_steps<S: Parted, L: Ledger>(
     machine: Tracked<S>,
     list: &[Step<S::Op>],
+    limit: u32,
     ticks: &mut Ticks<L>,
 ) -> Result<(Tracked<S>, Option<Halt<S::Op>>), OutOfMemory>
     requires asked { (step : StepOf S.Op) → In step (meanings list.now) →
         IsAsked S.object machine.shape step }
-    requires few { machine.count ≤ MOST_STEPS }
+    requires few { machine.count ≤ limit }
     ensures drives { IfOk result (λ r.
-        Drives S.object machine (meanings list.now) ticks.old r.1 r.0 ticks.new) }
-    ensures most { CostAtMost S.object S.place_of machine (meanings list.now) ticks.old ticks.new }
+        Drives limit S.object machine (meanings list.now) ticks.old r.1 r.0 ticks.new) }
+    ensures most { CostAtMost limit S.object S.place_of machine (meanings list.now)
+        ticks.old ticks.new }
 {
     let mut machine = machine;
     for step in list {
-        if is_full(machine.count()) {
+        if machine.count() == limit {
             return Ok((machine, Some(Halt::TooMany)));
         }
         let (next, outcome) = machine.step(step, ticks)?;

@@ -306,6 +306,13 @@ impl<S: Parted> Tracked<S> {
         self.machine.is_open(tx)
     }
 
+    /// The machine.
+    pub fn machine(&self) -> &Machine<S>
+        ensures { result.now ≡ self.now }
+    {
+        &self.machine
+    }
+
     /// The machine itself.
     pub fn into_machine(self) -> Machine<S>
         ensures { result ≡ self }
@@ -448,7 +455,7 @@ impl<S: Parted> Tracked<S> {
         ticks: &mut Ticks<L>,
     ) -> Result<(Self, Outcome<S::Op>), OutOfMemory>
         requires asked { IsAsked S.object self.shape (meaning step.now) }
-        requires few { self.count < 200_000 }
+        requires few { self.count < 4_294_967_295 }
         ensures effect { IfOk result (λ r. Stepped S.object self (meaning step.now) r.1 r.0) }
         ensures shown { IfOk result (λ r. IsShown S.object self (meaning step.now) r.1) }
         ensures cost { Costs S.place_of self (meaning step.now) result ticks.old ticks.new }

@@ -39,19 +39,6 @@ do_steps-requires-clause-few g c = subst (λ m. m.count ≤ MOST_STEPS) (sym c.i
 
 -- ---- what halted them
 
-pub rejection_on-requires : goal.rejection_on-requires
-rejection_on-requires g c =
-    let header = c.args.header.now in
-    let self = c.args.self in
-    let here = steps_here header self.front self.machine (record_meaning c.args.recorded.now) in
-    let now = c.args.ticks.now in
-    let new = c.do_steps.new.ticks in
-    let halt = c.in_ok-machine.halt in
-    let machine = c.in_ok-machine.machine in
-    let same = c.steps_of-steps.ensures ∙ c.in_ok-made.ensures.steps (kinds_of header.catalog) in
-    let drives = subst (λ m. Drives objects m here now halt machine new) c.in_ok-made.ensures.machine (subst (λ w. Drives objects c.make_steps.new.machine w now halt machine new) same c.in_ok-machine.ensures.drives) in
-    subst (λ n. n ≤ MOST_STEPS) (sym c.count-count.ensures.count) (few_there self.machine machine here now new halt drives)
-
 pub overflow_sub-count : goal.overflow_sub-count
 overflow_sub-count g c =
     let header = c.args.header.now in
@@ -62,8 +49,8 @@ overflow_sub-count g c =
     let halt = c.in_ok-machine.halt in
     let machine = c.in_ok-machine.machine in
     let same = c.steps_of-steps.ensures ∙ c.in_ok-made.ensures.steps (kinds_of header.catalog) in
-    let drives = subst (λ m. Drives objects m here now halt machine new) c.in_ok-made.ensures.machine (subst (λ w. Drives objects c.make_steps.new.machine w now halt machine new) same c.in_ok-machine.ensures.drives) in
-    omega (arith, c.count-before.ensures.count, c.count-count.ensures.count, no_fewer_there self.machine machine here now new halt drives)
+    let drives = subst (λ m. Drives MOST_STEPS objects m here now halt machine new) c.in_ok-made.ensures.machine (subst (λ w. Drives MOST_STEPS objects c.make_steps.new.machine w now halt machine new) same c.in_ok-machine.ensures.drives) in
+    omega (arith, c.count-before.ensures.count, c.count-count.ensures.count, no_fewer_there MOST_STEPS self.machine machine here now new halt drives)
 
 pub tried-requires : goal.tried-requires
 tried-requires g c =
@@ -75,8 +62,8 @@ tried-requires g c =
     let halt = c.in_ok-machine.halt in
     let machine = c.in_ok-machine.machine in
     let same = c.steps_of-steps.ensures ∙ c.in_ok-made.ensures.steps (kinds_of header.catalog) in
-    let drives = subst (λ m. Drives objects m here now halt machine new) c.in_ok-made.ensures.machine (subst (λ w. Drives objects c.make_steps.new.machine w now halt machine new) same c.in_ok-machine.ensures.drives) in
-    omega (arith, c.count-count.ensures.count, few_there self.machine machine here now new halt drives)
+    let drives = subst (λ m. Drives MOST_STEPS objects m here now halt machine new) c.in_ok-made.ensures.machine (subst (λ w. Drives MOST_STEPS objects c.make_steps.new.machine w now halt machine new) same c.in_ok-machine.ensures.drives) in
+    omega (arith, c.count-count.ensures.count, few_there MOST_STEPS self.machine machine here now new halt drives)
 
 pub see-requires : goal.see-requires
 see-requires g c =
@@ -103,9 +90,9 @@ returns-clause-judged g c =
     let front = c.make_steps.new.front in
     let next = c.in_ok-observer.observer in
     let same = c.steps_of-steps.ensures ∙ c.in_ok-made.ensures.steps kinds in
-    let drives = subst (λ m. Drives objects m here now halt machine new) c.in_ok-made.ensures.machine (subst (λ w. Drives objects c.make_steps.new.machine w now halt machine new) same c.in_ok-machine.ensures.drives) in
+    let drives = subst (λ m. Drives MOST_STEPS objects m here now halt machine new) c.in_ok-made.ensures.machine (subst (λ w. Drives MOST_STEPS objects c.make_steps.new.machine w now halt machine new) same c.in_ok-machine.ensures.drives) in
     let counted = c.count-count.ensures.count in
-    let fewer = no_fewer_there self.machine machine here now new halt drives in
+    let fewer = no_fewer_there MOST_STEPS self.machine machine here now new halt drives in
     let first = told_meant ((c.count-count.result - c.count-before.result) + 1) c.tried.result.now c.steps_of-steps.result.now c.tried.ensures ∙ ap (λ l. take ((c.count-count.result - c.count-before.result) + 1) l) same in
     subst (λ judged. Judges (driven_judging W) header self r c.args.line judged now new) (sym c.judged_of.ensures)
     (judges W header self r c.args.line now new (meanings c.tried.result.now) next c.in_ok-observer.ensures front machine c.make_steps.ensures.same (c.in_ok-made.ensures.kept kinds)
@@ -127,7 +114,7 @@ returns-in_err-rejection-clause-stop g c =
     let same = c.steps_of-steps.ensures ∙ c.in_ok-made.ensures.steps kinds in
     let halt = c.in_ok-machine.halt in
     let machine = c.in_ok-machine.machine in
-    let drives = subst (λ m. Drives objects m here now halt machine new) c.in_ok-made.ensures.machine (subst (λ w. Drives objects c.make_steps.new.machine w now halt machine new) same c.in_ok-machine.ensures.drives) in
+    let drives = subst (λ m. Drives MOST_STEPS objects m here now halt machine new) c.in_ok-made.ensures.machine (subst (λ w. Drives MOST_STEPS objects c.make_steps.new.machine w now halt machine new) same c.in_ok-machine.ensures.drives) in
     let p = err_from_is_err_and c.from_residual-in_err-rejection.result c.from_residual-in_err-rejection.ensures.1 in
     rw (p.1, p.2) (stops_there W header self r c.args.line now new machine halt c.in_err-rejection.field-0.0 drives
     (subst (λ n. rejection_on c.args.line n halt ≡ Err c.in_err-rejection.field-0.0) c.count-count.ensures.count (sym c.in_err-rejection.ensures)))
@@ -140,7 +127,7 @@ returns-in_err-made-clause-most g c =
     let self = c.args.self in
     let r = record_meaning c.args.recorded.now in
     let now = c.args.ticks.now in
-    judges_most g.W.Observer.HasSeen header self r c.args.line now now (untried self.machine (steps_here header self.front self.machine r) now c.requires.good.2.0.stands.few)
+    judges_most g.W.Observer.HasSeen header self r c.args.line now now (untried MOST_STEPS self.machine (steps_here header self.front self.machine r) now c.requires.good.2.0.stands.few)
 
 pub returns-in_err-machine-clause-most : goal.returns-in_err-machine-clause-most
 returns-in_err-machine-clause-most g c =
@@ -153,7 +140,7 @@ returns-in_err-machine-clause-most g c =
     let now = c.args.ticks.now in
     let new = c.do_steps.new.ticks in
     let same = c.steps_of-steps.ensures ∙ c.in_ok-made.ensures.steps kinds in
-    let cost = subst (λ m. CostAtMost objects place_of m here now new) c.in_ok-made.ensures.machine (subst (λ w. CostAtMost objects place_of c.make_steps.new.machine w now new) same c.do_steps.ensures.most) in
+    let cost = subst (λ m. CostAtMost MOST_STEPS objects place_of m here now new) c.in_ok-made.ensures.machine (subst (λ w. CostAtMost MOST_STEPS objects place_of c.make_steps.new.machine w now new) same c.do_steps.ensures.most) in
     judges_most W header self r c.args.line now new cost
 
 pub returns-in_err-rejection-clause-most : goal.returns-in_err-rejection-clause-most
@@ -167,7 +154,7 @@ returns-in_err-rejection-clause-most g c =
     let now = c.args.ticks.now in
     let new = c.do_steps.new.ticks in
     let same = c.steps_of-steps.ensures ∙ c.in_ok-made.ensures.steps kinds in
-    let cost = subst (λ m. CostAtMost objects place_of m here now new) c.in_ok-made.ensures.machine (subst (λ w. CostAtMost objects place_of c.make_steps.new.machine w now new) same c.do_steps.ensures.most) in
+    let cost = subst (λ m. CostAtMost MOST_STEPS objects place_of m here now new) c.in_ok-made.ensures.machine (subst (λ w. CostAtMost MOST_STEPS objects place_of c.make_steps.new.machine w now new) same c.do_steps.ensures.most) in
     judges_most W header self r c.args.line now new cost
 
 pub returns-in_err-observer-clause-most : goal.returns-in_err-observer-clause-most
@@ -181,7 +168,7 @@ returns-in_err-observer-clause-most g c =
     let now = c.args.ticks.now in
     let new = c.do_steps.new.ticks in
     let same = c.steps_of-steps.ensures ∙ c.in_ok-made.ensures.steps kinds in
-    let cost = subst (λ m. CostAtMost objects place_of m here now new) c.in_ok-made.ensures.machine (subst (λ w. CostAtMost objects place_of c.make_steps.new.machine w now new) same c.do_steps.ensures.most) in
+    let cost = subst (λ m. CostAtMost MOST_STEPS objects place_of m here now new) c.in_ok-made.ensures.machine (subst (λ w. CostAtMost MOST_STEPS objects place_of c.make_steps.new.machine w now new) same c.do_steps.ensures.most) in
     judges_most W header self r c.args.line now new cost
 
 pub returns-clause-most : goal.returns-clause-most
@@ -195,5 +182,5 @@ returns-clause-most g c =
     let now = c.args.ticks.now in
     let new = c.do_steps.new.ticks in
     let same = c.steps_of-steps.ensures ∙ c.in_ok-made.ensures.steps kinds in
-    let cost = subst (λ m. CostAtMost objects place_of m here now new) c.in_ok-made.ensures.machine (subst (λ w. CostAtMost objects place_of c.make_steps.new.machine w now new) same c.do_steps.ensures.most) in
+    let cost = subst (λ m. CostAtMost MOST_STEPS objects place_of m here now new) c.in_ok-made.ensures.machine (subst (λ w. CostAtMost MOST_STEPS objects place_of c.make_steps.new.machine w now new) same c.do_steps.ensures.most) in
     judges_most W header self r c.args.line now new cost
