@@ -16,3 +16,4 @@ pub mod Starting
 pub mod StepCounts
 pub mod Sums
 pub mod Runs
+pub mod Apart

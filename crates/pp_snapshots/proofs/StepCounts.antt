@@ -51,7 +51,7 @@ use Rattle.pp_snapshots.proofs.Takens.{summary_is}
 use Rattle.pp_snapshots.proofs.Views.{ops_items, pushed_none, unpushed_local}
 
 -- The open transaction in a slot has its summary among those of all.
-in_filled : {Op : Type 0} (n : Name) (x : OpenTx (List (Item Op))) (es : SlotList Op) → In (n, Some x) es → In (shown_tx n x) (filled shown_tx es)
+pub in_filled : {Op : Type 0} (n : Name) (x : OpenTx (List (Item Op))) (es : SlotList Op) → In (n, Some x) es → In (shown_tx n x) (filled shown_tx es)
 in_filled n x [] i = absurd i
 in_filled {Op} n x ((m, None) ∷ es) (inl e) = absurd (let k : Some x ≡ None = ap (λ (s : Name × Option (OpenTx (List (Item Op)))). s.1) e in cc)
 in_filled n x ((m, None) ∷ es) (inr i) = in_filled n x es i

@@ -4,6 +4,7 @@ use Rattle.pp_core.specs.declared.call.Style.TheVariants.{Optimistic}
 use Rattle.pp_laws_summary.specs.DecidedRuns.{GoodRuns, Summing, summary_after}
 use Rattle.pp_laws_summary.specs.Laws.{summing}
 use Rattle.pp_laws_summary.specs.Summary.{Summary, SummaryGood, next_summary}
+use Rattle.pp_kind.specs.declared.part.Part.{Part}
 use Rattle.pp_model.specs.Object.{Object}
 use Rattle.pp_records.specs.Fronts.{Front}
 use Rattle.pp_records.specs.Records.{RunRecord}
@@ -11,6 +12,21 @@ use Rattle.pp_snapshots.specs.Costs.{AreTried, records_most, take_most}
 use Rattle.pp_snapshots.specs.Sums.{CostsOfTried}
 
 module _ {Op State : Type 0} (O : Object Op State) (place : Op → ℕ) where
+  abbrev sums : Summing Front (RunRecord Op) Op (Summary Op)
+  sums = summing Optimistic O place
+
+  -- The records up to and with the first that is not good are tried.
+  pub tried_to : (xs more : List (RunRecord Op)) (B : Summary Op) (r : RunRecord Op) → GoodRuns sums B xs → (SummaryGood Optimistic O place (summary_after sums B xs) r → ⊥) →
+      AreTried O place B (xs ++ r ∷ more) (xs ++ r ∷ [])
+  tried_to [] more B r h bad = inl (bad, refl)
+  tried_to (x ∷ xs) more B r h bad = inr (h.0, (xs ++ r ∷ [], tried_to xs more (next_summary place Optimistic B x) r h.1 bad, refl))
+
+  -- If all records of a list are good, all are tried.
+  pub tried_all : (xs : List (RunRecord Op)) (B : Summary Op) → GoodRuns sums B xs → AreTried O place B xs xs
+  tried_all [] B h = refl
+  tried_all (x ∷ xs) B h = inr (h.0, (xs, tried_all xs (next_summary place Optimistic B x) h.1, refl))
+
+module _ {Op State : Type 0} (O : Object Op State) (place : Op → ℕ) (part : Op → Part) where
   abbrev S : Summing Front (RunRecord Op) Op (Summary Op)
   S = summing Optimistic O place
 
@@ -28,44 +44,33 @@ module _ {Op State : Type 0} (O : Object Op State) (place : Op → ℕ) where
   some [] B nowhere = nowhere [] refl
   some (r ∷ rs) B nowhere = nowhere (r ∷ []) (inl ((λ g. some rs (then_is B r) (λ tried k. nowhere (r ∷ tried) (inr (g, (tried, k, refl))))), refl))
 
-  so_far : (rs : List (RunRecord Op)) (B : Summary Op) (more tried : List (RunRecord Op)) → GoodRuns S B rs → AreTried O place B (rs ++ more) tried → records_most place B rs ≤ records_most place B tried
+  so_far : (rs : List (RunRecord Op)) (B : Summary Op) (more tried : List (RunRecord Op)) → GoodRuns S B rs → AreTried O place B (rs ++ more) tried → records_most place part B rs ≤ records_most place part B tried
   so_far [] B more tried h k = omega arith
   so_far (r ∷ rs) B more tried h (inl k) = absurd (k.0 h.0)
   so_far (r ∷ rs) B more tried h (inr k) =
       let i = so_far rs (then_is B r) more k.1.0 h.1 k.1.1 in
-      let e : records_most place B tried ≡ take_most place B r + records_most place (then_is B r) k.1.0 = ap (λ (z : List (RunRecord Op)). records_most place B z) k.1.2 in
+      let e : records_most place part B tried ≡ take_most place part B r + records_most place part (then_is B r) k.1.0 = ap (λ (z : List (RunRecord Op)). records_most place part B z) k.1.2 in
       omega (arith, i, e)
 
   next : (rs : List (RunRecord Op)) (B : Summary Op) (more tried : List (RunRecord Op)) (r : RunRecord Op) → GoodRuns S B rs → AreTried O place B (rs ++ r ∷ more) tried →
-      records_most place B rs + take_most place (summary_after S B rs) r ≤ records_most place B tried
+      records_most place part B rs + take_most place part (summary_after S B rs) r ≤ records_most place part B tried
   next [] B more tried r h (inl k) =
-      let e : records_most place B tried ≡ take_most place B r + 0 = ap (λ (z : List (RunRecord Op)). records_most place B z) k.1 in omega (arith, e)
+      let e : records_most place part B tried ≡ take_most place part B r + 0 = ap (λ (z : List (RunRecord Op)). records_most place part B z) k.1 in omega (arith, e)
   next [] B more tried r h (inr k) =
-      let e : records_most place B tried ≡ take_most place B r + records_most place (then_is B r) k.1.0 = ap (λ (z : List (RunRecord Op)). records_most place B z) k.1.2 in
+      let e : records_most place part B tried ≡ take_most place part B r + records_most place part (then_is B r) k.1.0 = ap (λ (z : List (RunRecord Op)). records_most place part B z) k.1.2 in
       omega (arith, e)
   next (q ∷ rs) B more tried r h (inl k) = absurd (k.0 h.0)
   next (q ∷ rs) B more tried r h (inr k) =
       let i = next rs (then_is B q) more k.1.0 r h.1 k.1.1 in
-      let e : records_most place B tried ≡ take_most place B q + records_most place (then_is B q) k.1.0 = ap (λ (z : List (RunRecord Op)). records_most place B z) k.1.2 in
+      let e : records_most place part B tried ≡ take_most place part B q + records_most place part (then_is B q) k.1.0 = ap (λ (z : List (RunRecord Op)). records_most place part B z) k.1.2 in
       omega (arith, i, e)
 
-  most : (rs : List (RunRecord Op)) (B : Summary Op) (r : RunRecord Op) → records_most place B (rs ++ r ∷ []) ≡ records_most place B rs + take_most place (summary_after S B rs) r
+  most : (rs : List (RunRecord Op)) (B : Summary Op) (r : RunRecord Op) → records_most place part B (rs ++ r ∷ []) ≡ records_most place part B rs + take_most place part (summary_after S B rs) r
   most [] B r = omega arith
   most (q ∷ rs) B r = let i = most rs (then_is B q) r in omega (arith, i)
 
-  -- The records up to and with the first that is not good are tried.
-  pub tried_to : (xs more : List (RunRecord Op)) (B : Summary Op) (r : RunRecord Op) → GoodRuns S B xs → (SummaryGood Optimistic O place (summary_after S B xs) r → ⊥) →
-      AreTried O place B (xs ++ r ∷ more) (xs ++ r ∷ [])
-  tried_to [] more B r h bad = inl (bad, refl)
-  tried_to (x ∷ xs) more B r h bad = inr (h.0, (xs ++ r ∷ [], tried_to xs more (then_is B x) r h.1 bad, refl))
-
-  -- If all records of a list are good, all are tried.
-  pub tried_all : (xs : List (RunRecord Op)) (B : Summary Op) → GoodRuns S B xs → AreTried O place B xs xs
-  tried_all [] B h = refl
-  tried_all (x ∷ xs) B h = inr (h.0, (xs, tried_all xs (then_is B x) h.1, refl))
-
   -- The tried records of a run are one list, and their cost bounds that of the records so far.
-  pub costs_of_tried : CostsOfTried O place
+  pub costs_of_tried : CostsOfTried O place part
   costs_of_tried =
       record {
         one = λ B rs a b x y. one rs B a b x y;

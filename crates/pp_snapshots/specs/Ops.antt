@@ -1,11 +1,12 @@
 -- Proof machinery: an op record, by what is kept.
-use Rattle.std.specs.Prelude.{◌≡◌, ◌==◌, ◌&&◌, ◌+◌, ◌-◌, ◌*◌, ◌<◌, ◌^◌, ℕ, zero, cond, nat_eq, false, List, []}
-use Rattle.std.specs.Prelude.{◌∷◌, ◌++◌, length, take, Option, None, Some}
+use Rattle.std.specs.Prelude.{◌≡◌, ◌==◌, ◌&&◌, ◌+◌, ◌*◌, ◌<◌, ◌^◌, ℕ, zero, cond, nat_eq, false, List, []}
+use Rattle.std.specs.Prelude.{◌∷◌, ◌++◌, drop, length, take, Option, None, Some}
 use Rattle.std.specs.List.{list_any}
 use Rattle.std.specs.Map.{lookup, set_value}
 use Rattle.pp_body.specs.Walks.{HasTakenOneMore, MayTake}
 use Rattle.pp_core.specs.declared.entry.Item.{Item}
 use Rattle.pp_kind.specs.Object.{IsAllowed, Object}
+use Rattle.pp_kind.specs.declared.part.Part.{Part}
 use Rattle.pp_model.specs.Body.{Begins}
 use Rattle.pp_model.specs.Names.{Name, ◌=ⁿ◌}
 use Rattle.pp_model.specs.Object.{ops}
@@ -15,6 +16,8 @@ use Rattle.pp_laws_summary.specs.Places.{ops_at}
 use Rattle.pp_summary.specs.Shown.{calls_of, open_in}
 use Rattle.pp_summary.specs.declared.parts.OpenTx.{OpenTx}
 use Rattle.pp_snapshots.specs.declared.past.Past.{Past}
+use Rattle.pp_snapshots.specs.Costs.{has_part, ops_of_part, share_part}
+use Rattle.pp_snapshots.specs.Many.{ops_made}
 use Rattle.pp_snapshots.specs.Past.{IsPast, made_at}
 use Rattle.pp_snapshots.specs.Shown.{Kept, seen_in}
 
@@ -29,6 +32,16 @@ module _ {Shape State Op Undo : Type 0} (o : Object Shape State Op Undo) (place 
   snapshot_of h op x =
       snapshot_at (seen_in x.seen.entries (place op)) (ops_at place (place op) (ops x.own))
       (length (h (place op)))
+
+  -- These own operations at a place are allowed after the first n there.
+  abbrev pub MayHave : Past State Op Undo → ℕ → ℕ → List Op → Type 0
+  MayHave v p n own =
+      (shape : Shape) (h : ℕ → List Op) → IsPast o place shape v h →
+      IsAllowed o shape (take n (h p) ++ ops_at place p own)
+
+  -- What the transaction has of each place is allowed: its snapshot, and then its own operations.
+  abbrev pub HasAllowed : Past State Op Undo → OpenTx (List (Item Op)) → Type 0
+  HasAllowed v x = (q : ℕ) → MayHave v q (seen_in x.seen.entries q) (ops x.own)
 
   -- The operation of an open transaction is good.
   pub record OpIsGood (shape : Shape) (h : ℕ → List Op) (ids : List ℕ) (id : ℕ) (op : Op)
@@ -86,23 +99,36 @@ module _ {Shape State Op Undo : Type 0} (o : Object Shape State Op Undo) where
     pub committed : w.committed ≡ v.committed
     pub count : w.count ≡ v.count + 1
 
--- What an operation costs at most: it, the own ones at its place and the later commits there are each
--- applied and taken back once.
-abbrev pub op_most : {State Op Undo : Type 0} → (Op → ℕ) → Past State Op Undo →
-    OpenTx (List (Item Op)) → Op → ℕ
-op_most place v x op =
-    2 * ((length (made_at (place op) v.places.items)
-    - snapshot_at (seen_in x.seen.entries (place op)) (ops_at place (place op) (ops x.own))
-    (length (made_at (place op) v.places.items)))
-    + (length (ops_at place (place op) (ops x.own)) + 1))
+-- the operations at a place after the first ones, of those that were applied
+abbrev pub made_from : {State Op Undo : Type 0} → Past State Op Undo → ℕ → ℕ → List Op
+made_from v q n = drop n (ops_made (made_at q v.places.items))
 
--- What a refresh costs at most: the later commits there twice as much.
-abbrev pub refresh_most : {State Op Undo : Type 0} → (Op → ℕ) → Past State Op Undo →
+-- How many operations are tried with an operation that is asked after the first n at its place, with
+-- these own ones: the own ones of its part. But if a later one is of its part, they are the own ones
+-- at its place and all later ones there.
+abbrev pub tried_after : {State Op Undo : Type 0} → (Op → ℕ) → (Op → Part) →
+    Past State Op Undo → ℕ → List Op → Op → ℕ
+tried_after place part v n own op =
+    cond (has_part part op (made_from v (place op) n))
+    (length (made_from v (place op) n) + length (ops_at place (place op) own))
+    (length (ops_of_part part op own))
+
+-- What an operation costs at most: it and what is tried with it is applied and taken back once.
+abbrev pub op_most : {State Op Undo : Type 0} → (Op → ℕ) → (Op → Part) → Past State Op Undo →
+    OpenTx (List (Item Op)) → Op → ℕ
+op_most place part v x op =
+    2 * (tried_after place part v
+    (snapshot_at (seen_in x.seen.entries (place op)) (ops_at place (place op) (ops x.own))
+    (length (made_at (place op) v.places.items))) (ops x.own) op + 1)
+
+-- What a refresh costs at most.
+abbrev pub refresh_most : {State Op Undo : Type 0} → (Op → ℕ) → (Op → Part) → Past State Op Undo →
     OpenTx (List (Item Op)) → ℕ → ℕ
-refresh_most place v x q =
-    2 * ((length (made_at q v.places.items) - seen_in x.seen.entries q)
-    + (length (ops_at place q (ops x.own))
-    + (length (made_at q v.places.items) - seen_in x.seen.entries q)))
+refresh_most place part v x q =
+    2 * cond
+    (share_part part (ops_at place q (ops x.own)) (made_from v q (seen_in x.seen.entries q)))
+    (length (made_from v q (seen_in x.seen.entries q))
+    + (length (ops_at place q (ops x.own)) + length (made_from v q (seen_in x.seen.entries q)))) 0
 
 -- nothing of a transaction that is not open
 abbrev pub or_nothing : {A : Type 0} → Option A → (A → ℕ) → ℕ
@@ -114,17 +140,18 @@ abbrev pub open_most : {Shape State Op Undo : Type 0} → Name → Kept Shape St
 open_most t v most = or_nothing (open_in t v.slots.entries) most
 
 -- what a record costs at most, whatever is returned
-abbrev pub kept_most : {Shape State Op Undo : Type 0} → (Op → ℕ) → Kept Shape State Op Undo →
-    RunRecord Op → ℕ
-kept_most place v (records.Plain step) = 0
-kept_most place v (records.Op t id op) = open_most t v (λ x. op_most place v.past x op)
-kept_most place v (records.Commit t) = open_most t v (λ x. 2 * length x.own)
-kept_most place v (records.Abort t) = 0
-kept_most place v (records.Retry t) = 0
-kept_most place v (records.Refresh t q) = open_most t v (λ x. refresh_most place v.past x q)
-kept_most place v (records.XBegin t) = 0
-kept_most place v (records.XEnd t) = 0
-kept_most place v (records.XAbort t) = 0
-kept_most place v (records.Depend t source) = 0
-kept_most place v (records.Publish t) = 0
-kept_most place v (records.DropSource t source) = 0
+abbrev pub kept_most : {Shape State Op Undo : Type 0} → (Op → ℕ) → (Op → Part) →
+    Kept Shape State Op Undo → RunRecord Op → ℕ
+kept_most place part v (records.Plain step) = 0
+kept_most place part v (records.Op t id op) = open_most t v (λ x. op_most place part v.past x op)
+kept_most place part v (records.Commit t) = open_most t v (λ x. 2 * length x.own)
+kept_most place part v (records.Abort t) = 0
+kept_most place part v (records.Retry t) = 0
+kept_most place part v (records.Refresh t q) =
+    open_most t v (λ x. refresh_most place part v.past x q)
+kept_most place part v (records.XBegin t) = 0
+kept_most place part v (records.XEnd t) = 0
+kept_most place part v (records.XAbort t) = 0
+kept_most place part v (records.Depend t source) = 0
+kept_most place part v (records.Publish t) = 0
+kept_most place part v (records.DropSource t source) = 0

@@ -32,6 +32,22 @@ module _ {Shape State Op Undo : Type 0} (o : Object Shape State Op Undo) where
   OneStays own later = (b : Op) × In b later × StaysOf own b
 
   module _ (place : Op → ℕ) where
+    -- What is returned: whether these own operations, which come after the first n at a place, swap
+    -- with the later ones there, and all of these are allowed after them.
+    abbrev pub LaterTold : Shape → (ℕ → List Op) → ℕ → ℕ → List Op → Bool → Type 0
+    LaterTold shape h p n own true =
+        AllSwap own (drop n (h p)) × IsAllowed o shape (take n (h p) ++ (own ++ drop n (h p)))
+    LaterTold shape h p n own false =
+        OneStays own (drop n (h p)) ⊎
+        (IsAllowed o shape (take n (h p) ++ (own ++ drop n (h p))) → ⊥)
+
+    -- It returns that, and all that was applied still is.
+    abbrev pub TellsLater : Past State Op Undo → ℕ → ℕ → List Op → Bool → Past State Op Undo →
+        Type 0
+    TellsLater v p n own answer w =
+        (shape : Shape) (h : ℕ → List Op) → IsPast o place shape v h →
+        LaterTold shape h p n own answer × IsPast o place shape w h
+
     -- what the transaction has missed of a place
     abbrev pub later_at : (ℕ → List Op) → ℕ → OpenTx (List (Item Op)) → List Op
     later_at h p x = drop (seen_in x.seen.entries p) (h p)

@@ -1,14 +1,18 @@
 //! An op record.
-ghost use Rattle.std.specs.Prelude.{◌≡◌, ◌+◌, ◌*◌, ◌<◌, ◌≤◌, IfOk, IsTrue, OnOk, is_some, length};
+ghost use Rattle.std.specs.Prelude.{◌≡◌, ◌==◌, ◌&&◌, ◌+◌, ◌*◌, ◌<◌, ◌≤◌, ◌++◌, ◌∷◌, [], not, cond, nat_eq, zero};
+ghost use Rattle.std.specs.Prelude.{IfOk, IsTrue, OnOk, is_some, length, false};
+ghost use Rattle.std.specs.List.{list_any};
 ghost use Rattle.pp_body.specs.Walks.{HasTaken, MayTake};
 ghost use Rattle.pp_laws_summary.specs.Places.{ops_at};
 ghost use Rattle.pp_model.specs.Object.{ops};
 ghost use Rattle.pp_summary.specs.Held.{IsOpAsked};
 ghost use Rattle.pp_summary.specs.Shown.{calls_of};
 ghost use Rattle.pp_records.specs.Records.{Op};
-ghost use Rattle.pp_snapshots.specs.Many.{AreAsked};
+ghost use Rattle.pp_snapshots.specs.Costs.{has_part, ops_of_part};
+ghost use Rattle.pp_snapshots.specs.Many.{AreAsked, TellsBehind};
 ghost use Rattle.pp_snapshots.specs.Moving.{Answers};
-ghost use Rattle.pp_snapshots.specs.Ops.{AddsOp, IsGrown, MayAddOp, op_most, open_most, TellsOp, snapshot_at};
+ghost use Rattle.pp_snapshots.specs.Ops.{AddsOp, HasAllowed, IsGrown, MayAddOp, MayHave, TellsOp};
+ghost use Rattle.pp_snapshots.specs.Ops.{made_from, op_most, open_most, tried_after};
 ghost use Rattle.pp_snapshots.specs.Past.{IsSomePast, made_at};
 ghost use Rattle.pp_kind.specs.declared.range.TheConstants.{MOST_OPERATIONS};
 ghost use Rattle.pp_snapshots.specs.Shown.{Keeps, seen_in};
@@ -17,7 +21,8 @@ use crate::many::may_follow;
 use crate::parts::Parts;
 use crate::past::{Done, Past};
 use pp_core::{IdSet, Item, Items, Name, OutOfMemory, Ticks};
-use pp_kind::Placed;
+use pp_kind::{Parted, Placed};
+use pp_kind_parts::PartByPart;
 use pp_summary::{OpenTx, Seen, find_open, put_back, take_out};
 use std::alloc::Global;
 use std::sync::ledger::Ledger;
@@ -59,21 +64,158 @@ pub fn seen_at(seen: &Seen, place: u16) -> usize
     }
 }
 
+/// Whether one of the operations is at a place.
+pub(crate) fn has_own_at<S: Placed>(own: &[Item<S::Op>], place: u16) -> bool
+    ensures { result ≡ list_any (λ p. S.place_of p.op == place) own.now }
+{
+    own.iter().any(|item| S::place(&item.op) == place)
+}
+
+/// Whether one of these operations is of the part of another.
+pub(crate) fn has_part<S: Parted>(ops: &[S::Op], op: &S::Op) -> bool
+    ensures { result ≡ has_part S.part_of op.now ops.now }
+{
+    let part = S::part(op);
+    ops.iter().any(|a| S::part(a) == part)
+}
+
+/// The own operations of the part of another, in order. The only error is out of memory.
+fn own_of_part<S: Parted>(
+    alloc: Global,
+    own: &[Item<S::Op>],
+    op: &S::Op,
+) -> Result<Vec<S::Op>, OutOfMemory>
+    ensures { IfOk result (λ l. l.items ≡ ops_of_part S.part_of op.now (ops own.now)) }
+{
+    let part = S::part(op);
+    let mut of_part = Vec::new(alloc);
+    for item in own {
+        if S::part(&item.op) == part {
+            of_part.push(item.op)?;
+        }
+    }
+    Ok(of_part)
+}
+
+/// Whether one of the operations that were applied at the place of another, but for the first ones, is
+/// of its part.
+fn misses_part<S: Parted>(past: &Past<S::State, S::Op, S::Undo>, from: usize, op: &S::Op) -> bool
+    ensures { result ≡ has_part S.part_of op.now (made_from past.now (S.place_of op.now) from) }
+{
+    let Some(done) = past.places.get(usize::from(S::place(op))) else {
+        return false;
+    };
+    let part = S::part(op);
+    for k in from..done.made.len() {
+        if S::part(&done.made[k].op) == part {
+            return true;
+        }
+    }
+    false
+}
+
 /// After how many committed operations at its place an operation is tried: after those of the
 /// snapshot, and after all if the transaction has nothing of the place.
-fn snapshot<O: Copy>(seen: usize, own: &[O], all: usize) -> usize
-    ensures { result ≡ snapshot_at seen own.now all }
+fn snapshot(seen: usize, own: bool, all: usize) -> usize
+    ensures { result ≡ cond (nat_eq seen zero && not own) all seen }
 {
-    if seen == 0 && own.len() == 0 {
-        all
+    if seen == 0 && !own { all } else { seen }
+}
+
+/// Whether an operation is allowed after the first ones at its place and the own ones there. All later
+/// ones there are taken back meanwhile. The only error is out of memory.
+fn ask_place<S: Placed, L: Ledger>(
+    past: &mut Past<S::State, S::Op, S::Undo>,
+    own: &[Item<S::Op>],
+    seen: usize,
+    op: &S::Op,
+    ticks: &mut Ticks<L>,
+) -> Result<bool, OutOfMemory>
+    requires some { IsSomePast S.object S.place_of past.old }
+    requires own { AreAsked S.object past.old (ops own.now) }
+    requires asked { IsOpAsked S.object (S.object.shape past.old.state) op.now }
+    requires few { past.old.size + length own.now < MOST_OPERATIONS }
+    ensures tells { IfOk result (λ good. TellsBehind S.object S.place_of past.old
+        (S.place_of op.now) seen (ops_at S.place_of (S.place_of op.now) (ops own.now)
+        ++ op.now ∷ []) good past.new) }
+    ensures size { OnOk result (past.new.size ≡ past.old.size) }
+    ensures rises { ticks.old ≤ ticks.new }
+    ensures bound { ticks.new ≤ ticks.old
+        + 2 * (length (made_from past.old (S.place_of op.now) seen)
+        + length (ops_at S.place_of (S.place_of op.now) (ops own.now)) + 1) }
+    ensures least { IfOk result (λ good. IsTrue good → ticks.old < ticks.new) }
+{
+    let place = S::place(op);
+    let mut asked = own_at::<S>(past.alloc, own, place)?;
+    asked.push(*op)?;
+    may_follow::<S, L>(past, place, seen, &asked, ticks)
+}
+
+/// The same, where no later operation is of the part of this one. Then it is enough to ask it after
+/// all that were applied and the own ones of its part. The only error is out of memory.
+fn ask_part<S: PartByPart, L: Ledger>(
+    past: &mut Past<S::State, S::Op, S::Undo>,
+    own: &[Item<S::Op>],
+    seen: usize,
+    op: &S::Op,
+    ticks: &mut Ticks<L>,
+) -> Result<bool, OutOfMemory>
+    requires some { IsSomePast S.object S.place_of past.old }
+    requires own { AreAsked S.object past.old (ops own.now) }
+    requires asked { IsOpAsked S.object (S.object.shape past.old.state) op.now }
+    requires have { MayHave S.object S.place_of past.old (S.place_of op.now) seen (ops own.now) }
+    requires misses { has_part S.part_of op.now (made_from past.old (S.place_of op.now) seen)
+        ≡ false }
+    requires few { past.old.size + length own.now < MOST_OPERATIONS }
+    ensures tells { IfOk result (λ good. TellsBehind S.object S.place_of past.old
+        (S.place_of op.now) seen (ops_at S.place_of (S.place_of op.now) (ops own.now)
+        ++ op.now ∷ []) good past.new) }
+    ensures size { OnOk result (past.new.size ≡ past.old.size) }
+    ensures rises { ticks.old ≤ ticks.new }
+    ensures bound { ticks.new ≤ ticks.old
+        + 2 * (length (ops_of_part S.part_of op.now (ops own.now)) + 1) }
+    ensures least { IfOk result (λ good. IsTrue good → ticks.old < ticks.new) }
+{
+    let place = S::place(op);
+    let all = count_at(&past.places, place);
+    let mut asked = own_of_part::<S>(past.alloc, own, op)?;
+    asked.push(*op)?;
+    may_follow::<S, L>(past, place, all, &asked, ticks)
+}
+
+/// Whether an operation is allowed after the first ones at its place and the own ones there. The only
+/// error is out of memory.
+fn ask<S: PartByPart, L: Ledger>(
+    past: &mut Past<S::State, S::Op, S::Undo>,
+    own: &[Item<S::Op>],
+    seen: usize,
+    op: &S::Op,
+    ticks: &mut Ticks<L>,
+) -> Result<bool, OutOfMemory>
+    requires some { IsSomePast S.object S.place_of past.old }
+    requires own { AreAsked S.object past.old (ops own.now) }
+    requires asked { IsOpAsked S.object (S.object.shape past.old.state) op.now }
+    requires have { MayHave S.object S.place_of past.old (S.place_of op.now) seen (ops own.now) }
+    requires few { past.old.size + length own.now < MOST_OPERATIONS }
+    ensures tells { IfOk result (λ good. TellsBehind S.object S.place_of past.old
+        (S.place_of op.now) seen (ops_at S.place_of (S.place_of op.now) (ops own.now)
+        ++ op.now ∷ []) good past.new) }
+    ensures size { OnOk result (past.new.size ≡ past.old.size) }
+    ensures rises { ticks.old ≤ ticks.new }
+    ensures bound { ticks.new ≤ ticks.old
+        + 2 * (tried_after S.place_of S.part_of past.old seen (ops own.now) op.now + 1) }
+    ensures least { IfOk result (λ good. IsTrue good → ticks.old < ticks.new) }
+{
+    if misses_part::<S>(past, seen, op) {
+        ask_place::<S, L>(past, own, seen, op, ticks)
     } else {
-        seen
+        ask_part::<S, L>(past, own, seen, op, ticks)
     }
 }
 
 /// The snapshot behind which the operation of an open transaction is asked, if it is good. The only
 /// error is out of memory.
-pub fn may_op<S: Placed, L: Ledger>(
+pub fn may_op<S: PartByPart, L: Ledger>(
     it: &OpenTx<Items<S::Op>>,
     ids: &IdSet,
     past: &mut Past<S::State, S::Op, S::Undo>,
@@ -85,12 +227,13 @@ pub fn may_op<S: Placed, L: Ledger>(
     requires taken { HasTaken it.now.walk (calls_of S.object it.now.own) }
     requires own { AreAsked S.object past.old (ops it.now.own) }
     requires asked { IsOpAsked S.object (S.object.shape past.old.state) op.now }
+    requires has { HasAllowed S.object S.place_of past.old it.now }
     requires few { past.old.size + length it.now.own < MOST_OPERATIONS }
     ensures tells { IfOk result (λ found. TellsOp S.object S.place_of past.old ids.now id op.now
         it.now found past.new) }
     ensures size { OnOk result (past.new.size ≡ past.old.size) }
     ensures rises { ticks.old ≤ ticks.new }
-    ensures bound { ticks.new ≤ ticks.old + op_most S.place_of past.old it.now op.now }
+    ensures bound { ticks.new ≤ ticks.old + op_most S.place_of S.part_of past.old it.now op.now }
     ensures least { IfOk result (λ found. IsTrue (is_some found) → ticks.old < ticks.new) }
 {
     if ids.contains(id) {
@@ -100,11 +243,10 @@ pub fn may_op<S: Placed, L: Ledger>(
         return Ok(None);
     }
     let place = S::place(op);
-    let mut asked = own_at::<S>(past.alloc, it.own.as_slice(), place)?;
+    let own = it.own.as_slice();
     let all = count_at(&past.places, place);
-    let seen = snapshot(seen_at(&it.seen, place), &asked, all);
-    asked.push(*op)?;
-    if !may_follow::<S, L>(past, place, seen, &asked, ticks)? {
+    let seen = snapshot(seen_at(&it.seen, place), has_own_at::<S>(own, place), all);
+    if !ask::<S, L>(past, own, seen, op, ticks)? {
         return Ok(None);
     }
     Ok(Some(seen))
@@ -148,7 +290,7 @@ fn add_op<S: Placed>(
 
 /// Takes an op record if it is good: the operation is the last own one of the open transaction.
 /// The only error is out of memory.
-pub fn do_op<S: Placed, L: Ledger>(
+pub fn do_op<S: PartByPart, L: Ledger>(
     parts: &mut Parts<S::Shape, S::State, S::Op, S::Undo>,
     tx: &Name,
     id: u32,
@@ -162,7 +304,7 @@ pub fn do_op<S: Placed, L: Ledger>(
         (Op tx.now id op.now) good parts.new) }
     ensures rises { ticks.old ≤ ticks.new }
     ensures bound { ticks.new ≤ ticks.old
-        + open_most tx.now parts.old (λ x. op_most S.place_of parts.old.past x op.now) }
+        + open_most tx.now parts.old (λ x. op_most S.place_of S.part_of parts.old.past x op.now) }
     ensures least { IfOk result (λ good. IsTrue good → ticks.old < ticks.new) }
 {
     let Some(it) = find_open(&parts.slots, tx) else {

@@ -22,6 +22,7 @@ use crate::parts::Parts;
 use crate::{start, steps, take};
 use pp_core::{Committed, Items, Name, OutOfMemory, Ticks};
 use pp_kind::Placed;
+use pp_kind_parts::PartByPart;
 use pp_records::RunRecord;
 use std::alloc::Global;
 use std::marker::Model;
@@ -133,7 +134,9 @@ impl<S: Placed> Snapshots<S> {
     {
         &self.parts.past.state
     }
+}
 
+impl<S: PartByPart> Snapshots<S> {
     /// Takes a record if it is good, and else gives the Snapshots back with the same summary, with
     /// false. The only error is out of memory, and the Snapshots are then lost.
     pub fn take<L: Ledger>(
@@ -149,7 +152,7 @@ impl<S: Placed> Snapshots<S> {
         ensures rises { ticks.old ≤ ticks.new }
         ensures bound { ticks.new
             ≤ ticks.old
-            + take_most S.place_of (summary_taken [] self) (record_meaning recorded.now) }
+            + take_most S.place_of S.part_of (summary_taken [] self) (record_meaning recorded.now) }
         ensures least { IfOk result (λ r. IsTrue r.1 →
             ticks.old + count_ops (record_meaning recorded.now ∷ []) ≤ ticks.new) }
     {

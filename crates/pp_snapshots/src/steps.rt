@@ -1,25 +1,17 @@
 //! How many steps a record has.
-ghost use Rattle.std.specs.Prelude.{◌≡◌, ◌≤◌, ◌<◌, ◌+◌, ◌==◌, ℕ};
-ghost use Rattle.std.specs.List.{list_any};
+ghost use Rattle.std.specs.Prelude.{◌≡◌, ◌≤◌, ◌<◌, ◌+◌, ℕ};
 ghost use Rattle.pp_core.specs.declared.call.Style.TheVariants.{Optimistic};
 ghost use Rattle.pp_records.specs.Expansions.{IsOfStyle};
 ghost use Rattle.pp_records.specs.Records.{Abort, Commit, Op, Refresh, Retry, record_meaning};
 ghost use Rattle.pp_snapshots.specs.Shown.{Keeps};
 ghost use Rattle.pp_snapshots.specs.Steps.{CountsAs, first_pulls, pulls_first};
 
-use crate::op::{count_at, seen_at};
+use crate::op::{count_at, has_own_at, seen_at};
 use crate::parts::Parts;
-use pp_core::{Item, Items, Name};
+use pp_core::{Items, Name};
 use pp_kind::Placed;
 use pp_records::RunRecord;
 use pp_summary::{OpenTx, find_open};
-
-/// Whether one of the operations is at a place.
-fn has_own_at<S: Placed>(own: &[Item<S::Op>], place: u16) -> bool
-    ensures { result ≡ list_any (λ p. S.place_of p.op == place) own.now }
-{
-    own.iter().any(|item| S::place(&item.op) == place)
-}
 
 /// How many of all commits at its place an operation pulls first: all, if its transaction has nothing
 /// of the place, and else none.

@@ -18,6 +18,7 @@ use crate::refresh::refresh;
 use crate::undo::{abort, retry};
 use pp_core::{OutOfMemory, Step, Ticks};
 use pp_kind::Placed;
+use pp_kind_parts::PartByPart;
 use pp_records::RunRecord;
 use std::sync::ledger::Ledger;
 
@@ -49,7 +50,7 @@ fn take_step<S: Placed>(
 
 /// Takes a record of an optimistic run if it is good, and else says false, and nothing has changed
 /// that is shown. The only error is out of memory.
-pub fn take<S: Placed, L: Ledger>(
+pub fn take<S: PartByPart, L: Ledger>(
     parts: &mut Parts<S::Shape, S::State, S::Op, S::Undo>,
     recorded: &RunRecord<S::Op>,
     ticks: &mut Ticks<L>,
@@ -62,7 +63,7 @@ pub fn take<S: Placed, L: Ledger>(
         Answers S.object S.place_of parts.old (record_meaning recorded.now) good parts.new) }
     ensures rises { ticks.old ≤ ticks.new }
     ensures bound { ticks.new ≤ ticks.old
-        + kept_most S.place_of parts.old (record_meaning recorded.now) }
+        + kept_most S.place_of S.part_of parts.old (record_meaning recorded.now) }
     ensures least { IfOk result (λ good. IsTrue good →
         ticks.old + count_ops (record_meaning recorded.now ∷ []) ≤ ticks.new) }
 {

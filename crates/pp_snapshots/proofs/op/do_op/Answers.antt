@@ -6,6 +6,7 @@ use Rattle.std.proofs.lemmas.Option.{same_Some}
 use Rattle.pp_snapshots.specs.Ops.{IsGrown}
 use Rattle.pp_snapshots.specs.Past.{IsPast}
 use Rattle.pp_snapshots.specs.Shown.{done_ops, shown}
+use Rattle.pp_snapshots.proofs.Apart.{has_allowed}
 use Rattle.pp_snapshots.proofs.Moving.{asked_here, fine_of, own_asked, own_within, some_past, stays_same, stays_with}
 use Rattle.pp_snapshots.proofs.OnOp.{from_good, grown_moves, not_open, to_good}
 use Rattle.pp_snapshots.proofs.op.do_op.Goals as goal
@@ -34,6 +35,10 @@ may_op-requires-clause-own g c =
 pub may_op-requires-clause-asked : goal.may_op-requires-clause-asked
 may_op-requires-clause-asked g c =
     asked_here g.S.Spec.object g.S.Placed.place_of g.S.Placed.SameAt g.met.S.Spec.lawful g.met.S.Placed.placed c.args.parts.now c.requires.keeps c.args.op.now c.requires.asked
+
+pub may_op-requires-clause-has : goal.may_op-requires-clause-has
+may_op-requires-clause-has g c =
+    has_allowed g.S.Spec.object g.S.Placed.place_of g.S.Placed.SameAt g.met.S.Spec.lawful g.met.S.Placed.placed c.args.parts.now c.requires.keeps c.args.tx.now c.in-Some.it.now (sym c.in-Some.ensures)
 
 pub may_op-requires-clause-few : goal.may_op-requires-clause-few
 may_op-requires-clause-few g c =

@@ -5,6 +5,7 @@ use Rattle.pp_kind.specs.Object.{rules_of}
 use Rattle.pp_laws_summary.specs.Summary.{SummaryRefresh}
 use Rattle.pp_snapshots.specs.Past.{IsPast, made_at}
 use Rattle.pp_snapshots.specs.Shown.{done_ops, shown}
+use Rattle.pp_snapshots.proofs.Apart.{has_allowed}
 use Rattle.pp_snapshots.proofs.Asking.{count_is}
 use Rattle.pp_snapshots.proofs.Moving.{own_asked, own_within, some_past, stays_same, stays_with}
 use Rattle.pp_snapshots.proofs.OnOp.{not_open}
@@ -26,6 +27,10 @@ may_refresh-requires-clause-some g c = some_past g.S.Spec.object g.S.Placed.plac
 pub may_refresh-requires-clause-own : goal.may_refresh-requires-clause-own
 may_refresh-requires-clause-own g c =
     own_asked g.S.Spec.object g.S.Placed.place_of g.S.Placed.SameAt g.met.S.Spec.lawful g.met.S.Placed.placed c.args.parts.now c.requires.keeps c.args.tx.now c.in-Some.it.now (sym c.in-Some.ensures)
+
+pub may_refresh-requires-clause-has : goal.may_refresh-requires-clause-has
+may_refresh-requires-clause-has g c =
+    has_allowed g.S.Spec.object g.S.Placed.place_of g.S.Placed.SameAt g.met.S.Spec.lawful g.met.S.Placed.placed c.args.parts.now c.requires.keeps c.args.tx.now c.in-Some.it.now (sym c.in-Some.ensures)
 
 pub may_refresh-requires-clause-few : goal.may_refresh-requires-clause-few
 may_refresh-requires-clause-few g c =
