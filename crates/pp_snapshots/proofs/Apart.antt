@@ -12,7 +12,9 @@ use Rattle.pp_model.specs.Names.{Name}
 use Rattle.pp_model.specs.Object.{ops}
 use Rattle.pp_model.proofs.Finding.{none_in}
 use Rattle.pp_model.proofs.Lists.{from_filter, from_map, in_cases}
-use Rattle.pp_kind.specs.Object.{IsAllowed, IsLawful, IsPlaced, Object}
+use Rattle.pp_kind.specs.Object.{IsAllowed, IsLawful, IsPlaced, Object, IsLegal, state_after}
+use Rattle.pp_kind.proofs.Lists.{one_more}
+use Rattle.pp_kind.proofs.Places.{reached_shape}
 use Rattle.pp_kind.specs.Parts.{PartsSwap}
 use Rattle.pp_kind.specs.declared.part.Part.{Part}
 use Rattle.pp_kind_parts.specs.Alone.{PartsStandAlone, same_part}
@@ -77,6 +79,31 @@ module _ {Shape State Op Undo : Type 0} (o : Object Shape State Op Undo) (place 
   pub refresh_tells : (v w : Past State Op Undo) (p n : ℕ) (x : OpenTx (List (Item Op))) (own : List Op) (good : Bool) → n ≡ seen_in x.seen.entries p → own ≡ ops_at place p (ops x.own)
       → TellsLater o place v p n own good w → TellsRefresh o place v p x good w
   refresh_tells v w p n x own good seen is told shape h past = let k = told shape h past in (refresh_told shape h p n x own good seen is k.0, k.1)
+
+module _ {Shape State Op Undo : Type 0} (o : Object Shape State Op Undo) (place : Op → ℕ) (SameAt : ℕ → State → State → Type 0) (laws : IsLawful o) (places : IsPlaced o place SameAt) where
+  -- An operation that is legal in each state is allowed after each allowed list.
+  allowed_silent : (shape : Shape) (x : List Op) (op : Op) → ((s : State) → IsTrue (o.fits (o.shape s) op) → IsLegal o s op) → IsTrue (o.fits shape op) → IsAllowed o shape x → IsAllowed o shape (x ++ op ∷ [])
+  allowed_silent shape x op legal fits h =
+      let s = state_after o shape x in
+      one_more o shape s x op refl h (legal s (subst (λ (sh : Shape). IsTrue (o.fits sh op)) (sym (reached_shape o laws shape x h)) fits))
+
+  -- The question of such an operation alone is the one after the first ones and the own ones: it is allowed.
+  pub silent_tells : (v w : Past State Op Undo) (op : Op) (n p all : ℕ) (own asked : List Op) (good : Bool) → ((s : State) → IsTrue (o.fits (o.shape s) op) → IsLegal o s op) → IsTrue (o.fits (o.shape v.state) op)
+      → p ≡ place op → all ≡ length (made_at p v.places.items) → asked ≡ op ∷ [] → MayHave o place v (place op) n own → TellsBehind o place v p all asked good w
+      → TellsBehind o place v (place op) n (ops_at place (place op) own ++ op ∷ []) good w
+  silent_tells v w op n p all own asked good legal fits at count is have told shape h past =
+      let k = told shape h past in
+      let enough : length (h p) ≤ all = let e = count_is o place shape v h past p in omega (arith, e, count) in
+      let here = subst (λ (sh : Shape). IsTrue (o.fits sh op)) (shape_is o place SameAt laws places shape v h past) fits in
+      let same : take all (h p) ++ asked ≡ h p ++ op ∷ [] = ap (λ (l : List Op). take all (h p) ++ l) is ∙ ap (λ (l : List Op). l ++ op ∷ []) (take_all all (h p) enough) in
+      let first = take n (h (place op)) in
+      let mine = ops_at place (place op) own in (
+        (
+          (λ g. subst (IsAllowed o shape) (append_assoc first mine (op ∷ [])) (allowed_silent shape (first ++ mine) op legal here (have shape h past))),
+          (λ g. k.0.1 (subst (IsAllowed o shape) (sym same) (allowed_silent shape (h p) op legal here (allowed_there o place SameAt laws places shape v h past p)))),
+        ),
+        k.1,
+      )
 
 module _ {Shape State Op Undo : Type 0} (o : Object Shape State Op Undo) (place : Op → ℕ) (SameAt : ℕ → State → State → Type 0) (laws : IsLawful o) (places : IsPlaced o place SameAt)
     (part : Op → Part) (swap : PartsSwap o part) (alone : PartsStandAlone o place part) where

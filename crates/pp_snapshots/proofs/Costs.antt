@@ -29,7 +29,7 @@ module _ {Shape State Op Undo : Type 0} (o : Object Shape State Op Undo) (place 
   pub all_is : (q : ℕ) → length (made_at q v.past.places.items) ≡ length (serial_at place q v.committed)
   all_is q = count_is o place v.shape v.past (done_ops o place v.committed) h.past q ∙ length-map (serial_at place q v.committed) (λ (p : Item Op). p.op)
 
-module _ {Shape State Op Undo : Type 0} (o : Object Shape State Op Undo) (place : Op → ℕ) (part : Op → Part) (v : Kept Shape State Op Undo) (h : Keeps o place v) where
+module _ {Shape State Op Undo : Type 0} (o : Object Shape State Op Undo) (place : Op → ℕ) (part : Op → Part) (silent : Op → Bool) (v : Kept Shape State Op Undo) (h : Keeps o place v) where
   of_it : (t : Name) (f : OpenTx (List (Item Op)) → ℕ) (g : OpenSummary Op → ℕ) → ((x : OpenTx (List (Item Op))) → f x ≡ g (shown_tx t x)) →
       or_nothing (open_in t v.slots.entries) f ≡ of_open (open_named t (filled shown_tx v.slots.entries)) g
   of_it t f g same = by (open_in t v.slots.entries) ∙ ap (λ (m : Option (OpenSummary Op)). of_open m g) (sym (found_is t shown_tx shown_tx (λ n x. refl) v.slots.entries h.names))
@@ -61,12 +61,12 @@ module _ {Shape State Op Undo : Type 0} (o : Object Shape State Op Undo) (place 
       ∙ dropped nothing seen D
       ∙ ap (λ (l : List Op). cond (nat_eq seen zero && nat_eq (length (ops_at place q l)) zero) [] (drop seen D)) (sym (ops_local t x.own))
 
-  op_is : (ks : List Kind) (t : Name) (op : Op) (x : OpenTx (List (Item Op))) → op_most place part v.past x op ≡ 2 * (tried_with place part (shown ks v) (shown_tx t x) op + 1)
+  op_is : (ks : List Kind) (t : Name) (op : Op) (x : OpenTx (List (Item Op))) → op_most place part silent v.past x op ≡ 2 * (tried_with place part silent (shown ks v) (shown_tx t x) op + 1)
   op_is ks t op x =
       let q = place op in
       let later = later_at place (shown ks v) (shown_tx t x) q in
-      ap (λ (l : List Op). 2 * (cond (has_part part op l) (length l + length (ops_at place q (ops x.own))) (length (ops_of_part part op (ops x.own))) + 1)) (later_is ks t q x)
-      ∙ ap (λ (w : List Op). 2 * (cond (has_part part op later) (length later + length (ops_at place q w)) (length (ops_of_part part op w)) + 1)) (sym (ops_local t x.own))
+      ap (λ (l : List Op). 2 * (cond (silent op) 0 (cond (has_part part op l) (length l + length (ops_at place q (ops x.own))) (length (ops_of_part part op (ops x.own)))) + 1)) (later_is ks t q x)
+      ∙ ap (λ (w : List Op). 2 * (cond (silent op) 0 (cond (has_part part op later) (length later + length (ops_at place q w)) (length (ops_of_part part op w))) + 1)) (sym (ops_local t x.own))
 
   refresh_is : (ks : List Kind) (t : Name) (q : ℕ) (x : OpenTx (List (Item Op))) → refresh_most place part v.past x q ≡ 2 * tried_for place part (shown ks v) (shown_tx t x) q
   refresh_is ks t q x =
@@ -76,10 +76,10 @@ module _ {Shape State Op Undo : Type 0} (o : Object Shape State Op Undo) (place 
       ∙ ap (λ (w : List Op). 2 * cond (share_part part (ops_at place q w) later) (length later + (length (ops_at place q w) + length later)) 0) (sym (ops_local t x.own))
 
   -- What a record costs at most, by what is kept, is what it costs by the summary.
-  pub most_is : (ks : List Kind) (r : RunRecord Op) → kept_most place part v r ≡ take_most place part (shown ks v) r
+  pub most_is : (ks : List Kind) (r : RunRecord Op) → kept_most place part silent v r ≡ take_most place part silent (shown ks v) r
   most_is ks (records.Plain step) = refl
   most_is ks (records.Op t id op) =
-      of_it t (λ x. op_most place part v.past x op) (λ y. 2 * (tried_with place part (shown ks v) y op + 1)) (op_is ks t op)
+      of_it t (λ x. op_most place part silent v.past x op) (λ y. 2 * (tried_with place part silent (shown ks v) y op + 1)) (op_is ks t op)
   most_is ks (records.Commit t) = of_it t (λ x. 2 * length x.own) (λ y. 2 * length y.own) (λ x. ap (λ (n : ℕ). 2 * n) (sym (length-map x.own (as_local t))))
   most_is ks (records.Abort t) = refl
   most_is ks (records.Retry t) = refl

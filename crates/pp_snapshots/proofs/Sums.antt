@@ -1,5 +1,5 @@
 -- What taking the records of a run costs at most.
-use Rattle.std.proofs.Common.{◌≡◌, ◌≤◌, ◌+◌, ℕ, List, [], ◌∷◌, ◌++◌, refl, sym, ap, ◌∙◌, arith, inl, inr}
+use Rattle.std.proofs.Common.{◌≡◌, ◌≤◌, ◌+◌, ℕ, Bool, List, [], ◌∷◌, ◌++◌, refl, sym, ap, ◌∙◌, arith, inl, inr}
 use Rattle.pp_core.specs.declared.call.Style.TheVariants.{Optimistic}
 use Rattle.pp_laws_summary.specs.DecidedRuns.{GoodRuns, Summing, summary_after}
 use Rattle.pp_laws_summary.specs.Laws.{summing}
@@ -26,7 +26,7 @@ module _ {Op State : Type 0} (O : Object Op State) (place : Op → ℕ) where
   tried_all [] B h = refl
   tried_all (x ∷ xs) B h = inr (h.0, (xs, tried_all xs (next_summary place Optimistic B x) h.1, refl))
 
-module _ {Op State : Type 0} (O : Object Op State) (place : Op → ℕ) (part : Op → Part) where
+module _ {Op State : Type 0} (O : Object Op State) (place : Op → ℕ) (part : Op → Part) (silent : Op → Bool) where
   abbrev S : Summing Front (RunRecord Op) Op (Summary Op)
   S = summing Optimistic O place
 
@@ -44,33 +44,33 @@ module _ {Op State : Type 0} (O : Object Op State) (place : Op → ℕ) (part : 
   some [] B nowhere = nowhere [] refl
   some (r ∷ rs) B nowhere = nowhere (r ∷ []) (inl ((λ g. some rs (then_is B r) (λ tried k. nowhere (r ∷ tried) (inr (g, (tried, k, refl))))), refl))
 
-  so_far : (rs : List (RunRecord Op)) (B : Summary Op) (more tried : List (RunRecord Op)) → GoodRuns S B rs → AreTried O place B (rs ++ more) tried → records_most place part B rs ≤ records_most place part B tried
+  so_far : (rs : List (RunRecord Op)) (B : Summary Op) (more tried : List (RunRecord Op)) → GoodRuns S B rs → AreTried O place B (rs ++ more) tried → records_most place part silent B rs ≤ records_most place part silent B tried
   so_far [] B more tried h k = omega arith
   so_far (r ∷ rs) B more tried h (inl k) = absurd (k.0 h.0)
   so_far (r ∷ rs) B more tried h (inr k) =
       let i = so_far rs (then_is B r) more k.1.0 h.1 k.1.1 in
-      let e : records_most place part B tried ≡ take_most place part B r + records_most place part (then_is B r) k.1.0 = ap (λ (z : List (RunRecord Op)). records_most place part B z) k.1.2 in
+      let e : records_most place part silent B tried ≡ take_most place part silent B r + records_most place part silent (then_is B r) k.1.0 = ap (λ (z : List (RunRecord Op)). records_most place part silent B z) k.1.2 in
       omega (arith, i, e)
 
   next : (rs : List (RunRecord Op)) (B : Summary Op) (more tried : List (RunRecord Op)) (r : RunRecord Op) → GoodRuns S B rs → AreTried O place B (rs ++ r ∷ more) tried →
-      records_most place part B rs + take_most place part (summary_after S B rs) r ≤ records_most place part B tried
+      records_most place part silent B rs + take_most place part silent (summary_after S B rs) r ≤ records_most place part silent B tried
   next [] B more tried r h (inl k) =
-      let e : records_most place part B tried ≡ take_most place part B r + 0 = ap (λ (z : List (RunRecord Op)). records_most place part B z) k.1 in omega (arith, e)
+      let e : records_most place part silent B tried ≡ take_most place part silent B r + 0 = ap (λ (z : List (RunRecord Op)). records_most place part silent B z) k.1 in omega (arith, e)
   next [] B more tried r h (inr k) =
-      let e : records_most place part B tried ≡ take_most place part B r + records_most place part (then_is B r) k.1.0 = ap (λ (z : List (RunRecord Op)). records_most place part B z) k.1.2 in
+      let e : records_most place part silent B tried ≡ take_most place part silent B r + records_most place part silent (then_is B r) k.1.0 = ap (λ (z : List (RunRecord Op)). records_most place part silent B z) k.1.2 in
       omega (arith, e)
   next (q ∷ rs) B more tried r h (inl k) = absurd (k.0 h.0)
   next (q ∷ rs) B more tried r h (inr k) =
       let i = next rs (then_is B q) more k.1.0 r h.1 k.1.1 in
-      let e : records_most place part B tried ≡ take_most place part B q + records_most place part (then_is B q) k.1.0 = ap (λ (z : List (RunRecord Op)). records_most place part B z) k.1.2 in
+      let e : records_most place part silent B tried ≡ take_most place part silent B q + records_most place part silent (then_is B q) k.1.0 = ap (λ (z : List (RunRecord Op)). records_most place part silent B z) k.1.2 in
       omega (arith, i, e)
 
-  most : (rs : List (RunRecord Op)) (B : Summary Op) (r : RunRecord Op) → records_most place part B (rs ++ r ∷ []) ≡ records_most place part B rs + take_most place part (summary_after S B rs) r
+  most : (rs : List (RunRecord Op)) (B : Summary Op) (r : RunRecord Op) → records_most place part silent B (rs ++ r ∷ []) ≡ records_most place part silent B rs + take_most place part silent (summary_after S B rs) r
   most [] B r = omega arith
   most (q ∷ rs) B r = let i = most rs (then_is B q) r in omega (arith, i)
 
   -- The tried records of a run are one list, and their cost bounds that of the records so far.
-  pub costs_of_tried : CostsOfTried O place part
+  pub costs_of_tried : CostsOfTried O place part silent
   costs_of_tried =
       record {
         one = λ B rs a b x y. one rs B a b x y;

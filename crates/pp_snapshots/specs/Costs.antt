@@ -44,14 +44,16 @@ later_at place B x q =
     cond (nat_eq (x.seen q) zero && nat_eq (length (own_at place x q)) zero) []
     (unseen_at place B x q)
 
--- How many operations are tried with an operation: the own ones of its part. But if a later one is
--- of its part, they are the own ones at its place and all later ones there.
-abbrev pub tried_with : {Op : Type 0} → (Op → ℕ) → (Op → Part) → Summary Op → OpenSummary Op → Op →
-    ℕ
-tried_with place part B x op =
-    cond (has_part part op (later_at place B x (place op)))
+-- How many operations are tried with an operation: none if its call has no result, and else the own
+-- ones of its part. But if a later one is of its part, they are the own ones at its place and all later
+-- ones there.
+abbrev pub tried_with : {Op : Type 0} → (Op → ℕ) → (Op → Part) → (Op → Bool) → Summary Op →
+    OpenSummary Op → Op → ℕ
+tried_with place part silent B x op =
+    cond (silent op) 0
+    (cond (has_part part op (later_at place B x (place op)))
     (length (later_at place B x (place op)) + length (own_at place x (place op)))
-    (length (ops_of_part part op (local_ops x.own)))
+    (length (ops_of_part part op (local_ops x.own))))
 
 -- How many operations are tried for a refresh of an object: none, if no own operation there is of the
 -- part of one that was not seen. Else they are the own ones and twice those that were not seen.
@@ -68,31 +70,33 @@ of_open (Some x) most = most x
 
 -- What a record costs at most, whatever is returned: each operation that is tried is applied and taken
 -- back once.
-abbrev pub take_most : {Op : Type 0} → (Op → ℕ) → (Op → Part) → Summary Op → RunRecord Op → ℕ
-take_most place part B (records.Plain step) = 0
-take_most place part B (records.Op t id op) =
-    of_open (open_named t B.opened) (λ x. 2 * (tried_with place part B x op + 1))
-take_most place part B (records.Commit t) =
+abbrev pub take_most : {Op : Type 0} → (Op → ℕ) → (Op → Part) → (Op → Bool) → Summary Op →
+    RunRecord Op → ℕ
+take_most place part silent B (records.Plain step) = 0
+take_most place part silent B (records.Op t id op) =
+    of_open (open_named t B.opened) (λ x. 2 * (tried_with place part silent B x op + 1))
+take_most place part silent B (records.Commit t) =
     of_open (open_named t B.opened) (λ x. 2 * length x.own)
-take_most place part B (records.Abort t) = 0
-take_most place part B (records.Retry t) = 0
-take_most place part B (records.Refresh t q) =
+take_most place part silent B (records.Abort t) = 0
+take_most place part silent B (records.Retry t) = 0
+take_most place part silent B (records.Refresh t q) =
     of_open (open_named t B.opened) (λ x. 2 * tried_for place part B x q)
-take_most place part B (records.XBegin t) = 0
-take_most place part B (records.XEnd t) = 0
-take_most place part B (records.XAbort t) = 0
-take_most place part B (records.Depend t source) = 0
-take_most place part B (records.Publish t) = 0
-take_most place part B (records.DropSource t source) = 0
+take_most place part silent B (records.XBegin t) = 0
+take_most place part silent B (records.XEnd t) = 0
+take_most place part silent B (records.XAbort t) = 0
+take_most place part silent B (records.Depend t source) = 0
+take_most place part silent B (records.Publish t) = 0
+take_most place part silent B (records.DropSource t source) = 0
 
 -- ---- the records of a run
 
 -- what these records cost at most, one after another
-abbrev pub records_most : {Op : Type 0} → (Op → ℕ) → (Op → Part) → Summary Op →
+abbrev pub records_most : {Op : Type 0} → (Op → ℕ) → (Op → Part) → (Op → Bool) → Summary Op →
     List (RunRecord Op) → ℕ
-records_most place part B [] = 0
-records_most place part B (r ∷ rs) =
-    take_most place part B r + records_most place part (next_summary place Optimistic B r) rs
+records_most place part silent B [] = 0
+records_most place part silent B (r ∷ rs) =
+    take_most place part silent B r
+    + records_most place part silent (next_summary place Optimistic B r) rs
 
 -- The tried records are all up to the first that is not good, this one included, or all if each is
 -- good.

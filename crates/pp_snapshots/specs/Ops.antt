@@ -1,5 +1,5 @@
 -- Proof machinery: an op record, by what is kept.
-use Rattle.std.specs.Prelude.{◌≡◌, ◌==◌, ◌&&◌, ◌+◌, ◌*◌, ◌<◌, ◌^◌, ℕ, zero, cond, nat_eq, false, List, []}
+use Rattle.std.specs.Prelude.{◌≡◌, ◌==◌, ◌&&◌, ◌+◌, ◌*◌, ◌<◌, ◌^◌, ℕ, Bool, zero, cond, nat_eq, false, List, []}
 use Rattle.std.specs.Prelude.{◌∷◌, ◌++◌, drop, length, take, Option, None, Some}
 use Rattle.std.specs.List.{list_any}
 use Rattle.std.specs.Map.{lookup, set_value}
@@ -104,20 +104,21 @@ abbrev pub made_from : {State Op Undo : Type 0} → Past State Op Undo → ℕ �
 made_from v q n = drop n (ops_made (made_at q v.places.items))
 
 -- How many operations are tried with an operation that is asked after the first n at its place, with
--- these own ones: the own ones of its part. But if a later one is of its part, they are the own ones
--- at its place and all later ones there.
-abbrev pub tried_after : {State Op Undo : Type 0} → (Op → ℕ) → (Op → Part) →
+-- these own ones: none if its call has no result, and else the own ones of its part. But if a later
+-- one is of its part, they are the own ones at its place and all later ones there.
+abbrev pub tried_after : {State Op Undo : Type 0} → (Op → ℕ) → (Op → Part) → (Op → Bool) →
     Past State Op Undo → ℕ → List Op → Op → ℕ
-tried_after place part v n own op =
-    cond (has_part part op (made_from v (place op) n))
+tried_after place part silent v n own op =
+    cond (silent op) 0
+    (cond (has_part part op (made_from v (place op) n))
     (length (made_from v (place op) n) + length (ops_at place (place op) own))
-    (length (ops_of_part part op own))
+    (length (ops_of_part part op own)))
 
 -- What an operation costs at most: it and what is tried with it is applied and taken back once.
-abbrev pub op_most : {State Op Undo : Type 0} → (Op → ℕ) → (Op → Part) → Past State Op Undo →
-    OpenTx (List (Item Op)) → Op → ℕ
-op_most place part v x op =
-    2 * (tried_after place part v
+abbrev pub op_most : {State Op Undo : Type 0} → (Op → ℕ) → (Op → Part) → (Op → Bool) →
+    Past State Op Undo → OpenTx (List (Item Op)) → Op → ℕ
+op_most place part silent v x op =
+    2 * (tried_after place part silent v
     (snapshot_at (seen_in x.seen.entries (place op)) (ops_at place (place op) (ops x.own))
     (length (made_at (place op) v.places.items))) (ops x.own) op + 1)
 
@@ -140,18 +141,19 @@ abbrev pub open_most : {Shape State Op Undo : Type 0} → Name → Kept Shape St
 open_most t v most = or_nothing (open_in t v.slots.entries) most
 
 -- what a record costs at most, whatever is returned
-abbrev pub kept_most : {Shape State Op Undo : Type 0} → (Op → ℕ) → (Op → Part) →
+abbrev pub kept_most : {Shape State Op Undo : Type 0} → (Op → ℕ) → (Op → Part) → (Op → Bool) →
     Kept Shape State Op Undo → RunRecord Op → ℕ
-kept_most place part v (records.Plain step) = 0
-kept_most place part v (records.Op t id op) = open_most t v (λ x. op_most place part v.past x op)
-kept_most place part v (records.Commit t) = open_most t v (λ x. 2 * length x.own)
-kept_most place part v (records.Abort t) = 0
-kept_most place part v (records.Retry t) = 0
-kept_most place part v (records.Refresh t q) =
+kept_most place part silent v (records.Plain step) = 0
+kept_most place part silent v (records.Op t id op) =
+    open_most t v (λ x. op_most place part silent v.past x op)
+kept_most place part silent v (records.Commit t) = open_most t v (λ x. 2 * length x.own)
+kept_most place part silent v (records.Abort t) = 0
+kept_most place part silent v (records.Retry t) = 0
+kept_most place part silent v (records.Refresh t q) =
     open_most t v (λ x. refresh_most place part v.past x q)
-kept_most place part v (records.XBegin t) = 0
-kept_most place part v (records.XEnd t) = 0
-kept_most place part v (records.XAbort t) = 0
-kept_most place part v (records.Depend t source) = 0
-kept_most place part v (records.Publish t) = 0
-kept_most place part v (records.DropSource t source) = 0
+kept_most place part silent v (records.XBegin t) = 0
+kept_most place part silent v (records.XEnd t) = 0
+kept_most place part silent v (records.XAbort t) = 0
+kept_most place part silent v (records.Depend t source) = 0
+kept_most place part silent v (records.Publish t) = 0
+kept_most place part silent v (records.DropSource t source) = 0

@@ -1,6 +1,6 @@
 //! An op record.
 ghost use Rattle.std.specs.Prelude.{◌≡◌, ◌==◌, ◌&&◌, ◌+◌, ◌*◌, ◌<◌, ◌≤◌, ◌++◌, ◌∷◌, [], not, cond, nat_eq, zero};
-ghost use Rattle.std.specs.Prelude.{IfOk, IsTrue, OnOk, is_some, length, false};
+ghost use Rattle.std.specs.Prelude.{IfOk, IsTrue, OnOk, is_some, length, false, true};
 ghost use Rattle.std.specs.List.{list_any};
 ghost use Rattle.pp_body.specs.Walks.{HasTaken, MayTake};
 ghost use Rattle.pp_laws_summary.specs.Places.{ops_at};
@@ -183,6 +183,35 @@ fn ask_part<S: PartByPart, L: Ledger>(
     may_follow::<S, L>(past, place, all, &asked, ticks)
 }
 
+/// The same of an operation whose call has no result, which is allowed. It is tried alone, after all that
+/// were applied. The only error is out of memory.
+fn ask_silent<S: PartByPart, L: Ledger>(
+    past: &mut Past<S::State, S::Op, S::Undo>,
+    own: &[Item<S::Op>],
+    seen: usize,
+    op: &S::Op,
+    ticks: &mut Ticks<L>,
+) -> Result<bool, OutOfMemory>
+    requires some { IsSomePast S.object S.place_of past.old }
+    requires asked { IsOpAsked S.object (S.object.shape past.old.state) op.now }
+    requires have { MayHave S.object S.place_of past.old (S.place_of op.now) seen (ops own.now) }
+    requires silent { S.silent_of op.now ≡ true }
+    requires few { past.old.size < MOST_OPERATIONS }
+    ensures tells { IfOk result (λ good. TellsBehind S.object S.place_of past.old
+        (S.place_of op.now) seen (ops_at S.place_of (S.place_of op.now) (ops own.now)
+        ++ op.now ∷ []) good past.new) }
+    ensures size { OnOk result (past.new.size ≡ past.old.size) }
+    ensures rises { ticks.old ≤ ticks.new }
+    ensures bound { ticks.new ≤ ticks.old + 2 }
+    ensures least { IfOk result (λ good. IsTrue good → ticks.old < ticks.new) }
+{
+    let place = S::place(op);
+    let all = count_at(&past.places, place);
+    let mut asked = Vec::new(past.alloc);
+    asked.push(*op)?;
+    may_follow::<S, L>(past, place, all, &asked, ticks)
+}
+
 /// Whether an operation is allowed after the first ones at its place and the own ones there. The only
 /// error is out of memory.
 fn ask<S: PartByPart, L: Ledger>(
@@ -203,10 +232,13 @@ fn ask<S: PartByPart, L: Ledger>(
     ensures size { OnOk result (past.new.size ≡ past.old.size) }
     ensures rises { ticks.old ≤ ticks.new }
     ensures bound { ticks.new ≤ ticks.old
-        + 2 * (tried_after S.place_of S.part_of past.old seen (ops own.now) op.now + 1) }
+        + 2 * (tried_after S.place_of S.part_of S.silent_of past.old seen (ops own.now) op.now
+        + 1) }
     ensures least { IfOk result (λ good. IsTrue good → ticks.old < ticks.new) }
 {
-    if misses_part::<S>(past, seen, op) {
+    if S::is_silent(op) {
+        ask_silent::<S, L>(past, own, seen, op, ticks)
+    } else if misses_part::<S>(past, seen, op) {
         ask_place::<S, L>(past, own, seen, op, ticks)
     } else {
         ask_part::<S, L>(past, own, seen, op, ticks)
@@ -233,7 +265,8 @@ pub fn may_op<S: PartByPart, L: Ledger>(
         it.now found past.new) }
     ensures size { OnOk result (past.new.size ≡ past.old.size) }
     ensures rises { ticks.old ≤ ticks.new }
-    ensures bound { ticks.new ≤ ticks.old + op_most S.place_of S.part_of past.old it.now op.now }
+    ensures bound { ticks.new ≤ ticks.old
+        + op_most S.place_of S.part_of S.silent_of past.old it.now op.now }
     ensures least { IfOk result (λ found. IsTrue (is_some found) → ticks.old < ticks.new) }
 {
     if ids.contains(id) {
@@ -304,7 +337,8 @@ pub fn do_op<S: PartByPart, L: Ledger>(
         (Op tx.now id op.now) good parts.new) }
     ensures rises { ticks.old ≤ ticks.new }
     ensures bound { ticks.new ≤ ticks.old
-        + open_most tx.now parts.old (λ x. op_most S.place_of S.part_of parts.old.past x op.now) }
+        + open_most tx.now parts.old (λ x.
+        op_most S.place_of S.part_of S.silent_of parts.old.past x op.now) }
     ensures least { IfOk result (λ good. IsTrue good → ticks.old < ticks.new) }
 {
     let Some(it) = find_open(&parts.slots, tx) else {

@@ -152,7 +152,8 @@ impl<S: PartByPart> Snapshots<S> {
         ensures rises { ticks.old ≤ ticks.new }
         ensures bound { ticks.new
             ≤ ticks.old
-            + take_most S.place_of S.part_of (summary_taken [] self) (record_meaning recorded.now) }
+            + take_most S.place_of S.part_of S.silent_of (summary_taken [] self)
+            (record_meaning recorded.now) }
         ensures least { IfOk result (λ r. IsTrue r.1 →
             ticks.old + count_ops (record_meaning recorded.now ∷ []) ≤ ticks.new) }
     {

@@ -63,7 +63,7 @@ pub fn take<S: PartByPart, L: Ledger>(
         Answers S.object S.place_of parts.old (record_meaning recorded.now) good parts.new) }
     ensures rises { ticks.old ≤ ticks.new }
     ensures bound { ticks.new ≤ ticks.old
-        + kept_most S.place_of S.part_of parts.old (record_meaning recorded.now) }
+        + kept_most S.place_of S.part_of S.silent_of parts.old (record_meaning recorded.now) }
     ensures least { IfOk result (λ good. IsTrue good →
         ticks.old + count_ops (record_meaning recorded.now ∷ []) ≤ ticks.new) }
 {

@@ -16,6 +16,7 @@ ask-requires-clause-have g c =
     let o = g.S.Spec.object in
     let place = g.S.Placed.place_of in
     let part = g.S.Parted.part_of in
+    let silent = g.S.PartByPart.silent_of in
     let past = c.args.past.now in
     let x = c.args.it.now in
     let op = c.args.op.now in
@@ -30,14 +31,15 @@ returns-in_err-ask-clause-bound g c =
     let o = g.S.Spec.object in
     let place = g.S.Placed.place_of in
     let part = g.S.Parted.part_of in
+    let silent = g.S.PartByPart.silent_of in
     let past = c.args.past.now in
     let x = c.args.it.now in
     let op = c.args.op.now in
     let seen = c.snapshot-seen.result in
     let n = snapshot_here place past op x c.place-place.result seen c.seen_at.result c.count_at-all.result c.has_own_at.result c.place-place.ensures c.snapshot-seen.ensures c.seen_at.ensures
     (c.has_own_at.ensures ∙ ap (λ l. list_any (λ e. place e.op == c.place-place.result) l) c.as_slice-own.ensures) c.count_at-all.ensures in
-    let most : 2 * (tried_after place part past seen (ops c.as_slice-own.result.now) op + 1) ≡ op_most place part past x op =
-    ap (λ l. 2 * (tried_after place part past seen (ops l) op + 1)) c.as_slice-own.ensures ∙ ap (λ m. 2 * (tried_after place part past m (ops x.own) op + 1)) n in
+    let most : 2 * (tried_after place part silent past seen (ops c.as_slice-own.result.now) op + 1) ≡ op_most place part silent past x op =
+    ap (λ l. 2 * (tried_after place part silent past seen (ops l) op + 1)) c.as_slice-own.ensures ∙ ap (λ m. 2 * (tried_after place part silent past m (ops x.own) op + 1)) n in
     subst (λ m. c.ask.new.ticks ≤ c.args.ticks.now + m) most c.ask.ensures.bound
 
 pub returns-then-not-branch-clause-tells : goal.returns-then-not-branch-clause-tells
@@ -45,6 +47,7 @@ returns-then-not-branch-clause-tells g c = λ shape h is.
     let o = g.S.Spec.object in
     let place = g.S.Placed.place_of in
     let part = g.S.Parted.part_of in
+    let silent = g.S.PartByPart.silent_of in
     let past = c.args.past.now in
     let x = c.args.it.now in
     let op = c.args.op.now in
@@ -63,14 +66,15 @@ returns-then-not-branch-clause-bound g c =
     let o = g.S.Spec.object in
     let place = g.S.Placed.place_of in
     let part = g.S.Parted.part_of in
+    let silent = g.S.PartByPart.silent_of in
     let past = c.args.past.now in
     let x = c.args.it.now in
     let op = c.args.op.now in
     let seen = c.snapshot-seen.result in
     let n = snapshot_here place past op x c.place-place.result seen c.seen_at.result c.count_at-all.result c.has_own_at.result c.place-place.ensures c.snapshot-seen.ensures c.seen_at.ensures
     (c.has_own_at.ensures ∙ ap (λ l. list_any (λ e. place e.op == c.place-place.result) l) c.as_slice-own.ensures) c.count_at-all.ensures in
-    let most : 2 * (tried_after place part past seen (ops c.as_slice-own.result.now) op + 1) ≡ op_most place part past x op =
-    ap (λ l. 2 * (tried_after place part past seen (ops l) op + 1)) c.as_slice-own.ensures ∙ ap (λ m. 2 * (tried_after place part past m (ops x.own) op + 1)) n in
+    let most : 2 * (tried_after place part silent past seen (ops c.as_slice-own.result.now) op + 1) ≡ op_most place part silent past x op =
+    ap (λ l. 2 * (tried_after place part silent past seen (ops l) op + 1)) c.as_slice-own.ensures ∙ ap (λ m. 2 * (tried_after place part silent past m (ops x.own) op + 1)) n in
     subst (λ m. c.ask.new.ticks ≤ c.args.ticks.now + m) most c.ask.ensures.bound
 
 pub returns-clause-tells : goal.returns-clause-tells
@@ -78,6 +82,7 @@ returns-clause-tells g c = λ shape h is.
     let o = g.S.Spec.object in
     let place = g.S.Placed.place_of in
     let part = g.S.Parted.part_of in
+    let silent = g.S.PartByPart.silent_of in
     let past = c.args.past.now in
     let x = c.args.it.now in
     let op = c.args.op.now in
@@ -106,12 +111,13 @@ returns-clause-bound g c =
     let o = g.S.Spec.object in
     let place = g.S.Placed.place_of in
     let part = g.S.Parted.part_of in
+    let silent = g.S.PartByPart.silent_of in
     let past = c.args.past.now in
     let x = c.args.it.now in
     let op = c.args.op.now in
     let seen = c.snapshot-seen.result in
     let n = snapshot_here place past op x c.place-place.result seen c.seen_at.result c.count_at-all.result c.has_own_at.result c.place-place.ensures c.snapshot-seen.ensures c.seen_at.ensures
     (c.has_own_at.ensures ∙ ap (λ l. list_any (λ e. place e.op == c.place-place.result) l) c.as_slice-own.ensures) c.count_at-all.ensures in
-    let most : 2 * (tried_after place part past seen (ops c.as_slice-own.result.now) op + 1) ≡ op_most place part past x op =
-    ap (λ l. 2 * (tried_after place part past seen (ops l) op + 1)) c.as_slice-own.ensures ∙ ap (λ m. 2 * (tried_after place part past m (ops x.own) op + 1)) n in
+    let most : 2 * (tried_after place part silent past seen (ops c.as_slice-own.result.now) op + 1) ≡ op_most place part silent past x op =
+    ap (λ l. 2 * (tried_after place part silent past seen (ops l) op + 1)) c.as_slice-own.ensures ∙ ap (λ m. 2 * (tried_after place part silent past m (ops x.own) op + 1)) n in
     subst (λ m. c.ask.new.ticks ≤ c.args.ticks.now + m) most c.ask.ensures.bound

@@ -33,8 +33,8 @@ returns-clause-bound g c =
     let r = record_meaning c.args.recorded.now in
     let v = c.self.inside.parts.value in
     let most =
-    ap (λ z. kept_most g.S.Placed.place_of g.S.Parted.part_of z r) c.deref_mut.ensures.value ∙ most_is g.S.Spec.object g.S.Placed.place_of g.S.Parted.part_of v c.self.invariant [] r
-    ∙ ap (λ B. take_most g.S.Placed.place_of g.S.Parted.part_of B r) (sym (summary_is [] v) ∙ ap (λ z. summary_taken [] z) c.self.view_is) in
+    ap (λ z. kept_most g.S.Placed.place_of g.S.Parted.part_of g.S.PartByPart.silent_of z r) c.deref_mut.ensures.value ∙ most_is g.S.Spec.object g.S.Placed.place_of g.S.Parted.part_of g.S.PartByPart.silent_of v c.self.invariant [] r
+    ∙ ap (λ B. take_most g.S.Placed.place_of g.S.Parted.part_of g.S.PartByPart.silent_of B r) (sym (summary_is [] v) ∙ ap (λ z. summary_taken [] z) c.self.view_is) in
     subst (λ n. c.take.new.ticks ≤ c.args.ticks.now + n) most c.take.ensures.bound
 
 pub returns-in_err-good-clause-bound : goal.returns-in_err-good-clause-bound
@@ -42,6 +42,6 @@ returns-in_err-good-clause-bound g c =
     let r = record_meaning c.args.recorded.now in
     let v = c.self.inside.parts.value in
     let most =
-    ap (λ z. kept_most g.S.Placed.place_of g.S.Parted.part_of z r) c.deref_mut.ensures.value ∙ most_is g.S.Spec.object g.S.Placed.place_of g.S.Parted.part_of v c.self.invariant [] r
-    ∙ ap (λ B. take_most g.S.Placed.place_of g.S.Parted.part_of B r) (sym (summary_is [] v) ∙ ap (λ z. summary_taken [] z) c.self.view_is) in
+    ap (λ z. kept_most g.S.Placed.place_of g.S.Parted.part_of g.S.PartByPart.silent_of z r) c.deref_mut.ensures.value ∙ most_is g.S.Spec.object g.S.Placed.place_of g.S.Parted.part_of g.S.PartByPart.silent_of v c.self.invariant [] r
+    ∙ ap (λ B. take_most g.S.Placed.place_of g.S.Parted.part_of g.S.PartByPart.silent_of B r) (sym (summary_is [] v) ∙ ap (λ z. summary_taken [] z) c.self.view_is) in
     subst (λ n. c.take.new.ticks ≤ c.args.ticks.now + n) most c.take.ensures.bound
