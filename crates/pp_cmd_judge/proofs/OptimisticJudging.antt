@@ -23,6 +23,8 @@ use Rattle.pp_laws_summary.specs.Summary.{Summary, SummaryGood}
 use Rattle.pp_objects.specs.Objects.{kinds_of, objects, place_of}
 use Rattle.pp_objects.specs.declared.act.Op.{Op}
 use Rattle.pp_summary.specs.Sums.{count_ops, is_op}
+use Rattle.pp_objects.specs.Parts.{part_of}
+use Rattle.pp_kind_parts.specs.Silent.{silent_of}
 use Rattle.pp_snapshots.specs.Costs.{AreTried, records_most, take_most}
 use Rattle.pp_snapshots.specs.Held.{HasStepCount, IsGoodTaken, Taken, Takes, first_taken, summary_taken}
 use Rattle.pp_snapshots.specs.Runs.{IsOptimistic}
@@ -176,26 +178,26 @@ module _ (h : Header) (judge : OptimisticJudge) (r : RunRecord Op) (line now new
   none_so_far at rs c = let all = all_meet h rs judge c in (all.0, λ q f. none_fails (headed at h) rs q.line all (inr (q, f, refl)))
 
   -- what the records and this one cost at most
-  so_far_most : new ≤ now + take_most place_of (summary_taken [] judge.snapshots) r → (at : ℕ) (rs : Records (RunRecord Op)) → AreTakenBehind h rs judge → (old : ℕ)
+  so_far_most : new ≤ now + take_most place_of part_of silent_of (summary_taken [] judge.snapshots) r → (at : ℕ) (rs : Records (RunRecord Op)) → AreTakenBehind h rs judge → (old : ℕ)
       → OptimisticCostAtMost (scan_of (headed at h) rs) old now → SnapshotsCostAtMost (scan_of (headed at h) (one_more rs line r)) old new
   so_far_most cost at rs c old most tried k =
       let B = first_summary h in
       let it : Lined (RunRecord Op) = record { line = line; what = r } in
       let here : now ≤ old + snapshots_most h (bare rs) = most.0 (none_so_far at rs c) (bare rs) (all_tried h rs judge c) in
       let parted = subst (λ (l : List (RunRecord Op)). AreTried (object_of h) place_of B l tried) (bare_append rs (it ∷ [])) k in
-      let law = (costs_of_tried (object_of h) place_of).next B (bare rs) [] tried r (good_runs h rs judge c) parted in
-      tried_next old now new (start_at_most (start_of h)) (records_most place_of B (bare rs)) (take_most place_of (summary_taken [] judge.snapshots) r)
-      (take_most place_of (summary_after (summing styles.Optimistic (object_of h) place_of) B (bare rs)) r) (records_most place_of B tried) here law (next_most h rs judge c r) cost
+      let law = (costs_of_tried (object_of h) place_of part_of silent_of).next B (bare rs) [] tried r (good_runs h rs judge c) parted in
+      tried_next old now new (start_at_most (start_of h)) (records_most place_of part_of silent_of B (bare rs)) (take_most place_of part_of silent_of (summary_taken [] judge.snapshots) r)
+      (take_most place_of part_of silent_of (summary_after (summing styles.Optimistic (object_of h) place_of) B (bare rs)) r) (records_most place_of part_of silent_of B tried) here law (next_most h rs judge c r) cost
 
   -- whatever is returned, without the search
-  pub takes_most : new ≤ now + take_most place_of (summary_taken [] judge.snapshots) r → CostsAtMostThere optimistic_judging h judge r line now new
+  pub takes_most : new ≤ now + take_most place_of part_of silent_of (summary_taken [] judge.snapshots) r → CostsAtMostThere optimistic_judging h judge r line now new
   takes_most cost at rs c old most =
       let sc : InputScan = scan_of (headed at h) (one_more rs line r) in
       let here : SnapshotsCostAtMost sc old new = so_far_most cost at rs c old most in
       (λ none. here, snapshots_cost_from sc old (old + search_most sc.records) new (up_by old (search_most sc.records)) here)
 
   -- with the search, of a record that is not good
-  pub searched_most : (then : ℕ) (next : Taken (List Kind) Op) → new ≤ now + take_most place_of (summary_taken [] judge.snapshots) r → then ≤ new + (next.count + 256) → IsOfStyle h.style r
+  pub searched_most : (then : ℕ) (next : Taken (List Kind) Op) → new ≤ now + take_most place_of part_of silent_of (summary_taken [] judge.snapshots) r → then ≤ new + (next.count + 256) → IsOfStyle h.style r
       → Takes objects place_of judge.snapshots r false next → CostsAtMostThere optimistic_judging h judge r line now then
   searched_most then next cost search styled takes at rs c old most =
       let it : Lined (RunRecord Op) = record { line = line; what = r } in

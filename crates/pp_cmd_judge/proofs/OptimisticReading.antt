@@ -28,6 +28,8 @@ use Rattle.pp_objects.specs.laws.Objects.{objects_lawful, objects_placed}
 use Rattle.pp_objects.specs.declared.act.Op.{Op}
 use Rattle.pp_summary.specs.Failures.{FailsIn, all_steps}
 use Rattle.pp_summary.specs.Held.{IsItemAsked}
+use Rattle.pp_objects.specs.Parts.{part_of}
+use Rattle.pp_kind_parts.specs.Silent.{silent_of}
 use Rattle.pp_snapshots.specs.Costs.{AreTried, take_most}
 use Rattle.pp_snapshots.specs.Held.{Starts, Taken, Takes, first_taken, summary_taken}
 use Rattle.pp_snapshots.specs.Runs.{IsOptimistic, TakesRuns, optimism}
@@ -44,7 +46,7 @@ pub takes_of : (ks : List Kind) (h : Option (Start Op)) → TakesRuns objects pl
 takes_of ks h = takes_runs objects place_of SameAt objects_lawful objects_placed ks h
 
 -- What a record costs at most does not depend on the kinds.
-pub any_kinds_most : (js ks : List Kind) (s : Taken (List Kind) Op) (r : RunRecord Op) → take_most place_of (summary_taken js s) r ≡ take_most place_of (summary_taken ks s) r
+pub any_kinds_most : (js ks : List Kind) (s : Taken (List Kind) Op) (r : RunRecord Op) → take_most place_of part_of silent_of (summary_taken js s) r ≡ take_most place_of part_of silent_of (summary_taken ks s) r
 any_kinds_most js ks s (records.Plain step) = refl
 any_kinds_most js ks s (records.Op t id op) = refl
 any_kinds_most js ks s (records.Commit t) = refl
@@ -134,9 +136,9 @@ module _ (h : Header) (rs : Records (RunRecord Op)) (judge : OptimisticJudge) (c
       (reads.leads rs judge.snapshots c.taken)
 
   -- what the next record costs at most, by that summary
-  pub next_most : (r : RunRecord Op) → take_most place_of (summary_taken [] judge.snapshots) r
-      ≡ take_most place_of (summary_after (summing styles.Optimistic (object_of h) place_of) (first_summary h) (bare rs)) r
-  next_most r = any_kinds_most [] own_kinds judge.snapshots r ∙ ap (λ (B : Summary Op). take_most place_of B r) summary_is
+  pub next_most : (r : RunRecord Op) → take_most place_of part_of silent_of (summary_taken [] judge.snapshots) r
+      ≡ take_most place_of part_of silent_of (summary_after (summing styles.Optimistic (object_of h) place_of) (first_summary h) (bare rs)) r
+  next_most r = any_kinds_most [] own_kinds judge.snapshots r ∙ ap (λ (B : Summary Op). take_most place_of part_of silent_of B r) summary_is
 
   -- All records that are good are tried.
   pub all_tried : AreTriedAfter h rs (bare rs)

@@ -8,7 +8,6 @@ use Rattle.pp_core.specs.declared.call.Kind.{Kind}
 use Rattle.pp_core.specs.declared.call.Style.{Style}
 use Rattle.pp_core.specs.declared.call.Style.TheVariants as styles
 use Rattle.pp_core.specs.declared.status.Status.TheVariants as statuses
-use Rattle.pp_core.specs.declared.step.Rule.{Rule}
 use Rattle.pp_core.specs.declared.step.Rule.TheVariants as rules
 use Rattle.pp_model.proofs.Begin.{start_sound}
 use Rattle.pp_model.proofs.Keeps.{run_keeps}
@@ -21,11 +20,9 @@ use Rattle.pp_model.specs.Sound.{Sound, serial_ops}
 use Rattle.pp_records.proofs.Ends.{after_append, bare_append, runs_append}
 use Rattle.pp_records.proofs.Whole.{extends_law, joined_more, led_config, unbegun}
 use Rattle.pp_records.specs.Expansions.{IsOfStyle}
-use Rattle.pp_records.specs.Fronts.{Front}
 use Rattle.pp_records.specs.Records.{RunRecord, Plain}
-use Rattle.pp_records.specs.Records as records
-use Rattle.pp_records.specs.Runs.{EndsAtFailure, IsRun, Lined, LinedSteps, Records, Standing, bare}
-use Rattle.pp_records.specs.Runs.{on_line, outset}
+use Rattle.pp_records.specs.Runs.{EndsAtFailure, IsRun, Lined, LinedSteps, Records, bare}
+use Rattle.pp_records.specs.Runs.{outset}
 use Rattle.pp_format_read.specs.declared.header.Header.{Header}
 use Rattle.pp_format_read.specs.Records.{IsReadable}
 use Rattle.pp_kind.specs.Object.{rules_of}
@@ -33,7 +30,7 @@ use Rattle.pp_kind.specs.declared.range.TheConstants.{MOST_OPERATIONS}
 use Rattle.pp_machine.proofs.Telling.{evidence_law}
 use Rattle.pp_machine.specs.Costs.{CostsBy, at_most}
 use Rattle.pp_machine.specs.Evidence.{Fits, evidence}
-use Rattle.pp_machine.specs.Machines.{Seen, stepped}
+use Rattle.pp_machine.specs.Machines.{Seen}
 use Rattle.pp_machine.specs.Stepping.{IsAsked, Stepped}
 use Rattle.pp_machine.specs.declared.detail.Detail.{Detail}
 use Rattle.pp_machine.specs.declared.machine.Outcome.TheVariants.{Done, False}
@@ -44,15 +41,14 @@ use Rattle.pp_styles.specs.Costs.{most_ticks, singles}
 use Rattle.pp_styles.proofs.Driven.{done_least, most_append, singles_append, vain_least}
 use Rattle.pp_summary.specs.Failures.{standing_after}
 use Rattle.pp_judge.proofs.Asking.{expansion_asked}
-use Rattle.pp_judge.proofs.DrivenSteps.{begun_bad_least, begun_good_least}
 use Rattle.pp_judge.proofs.RecordCosts.{but_last_end}
 use Rattle.pp_judge.proofs.Starting.{start_twice}
 use Rattle.pp_judge.specs.Costs.{StepsCostAtLeast, start_at_most, start_length}
 use Rattle.pp_judge.specs.Judging.{CostsAtMostThere, Judges, MayTake}
 use Rattle.pp_judge.specs.Objects.{object_of, start_of, translation_of}
 use Rattle.pp_judge.specs.Rejected.{IsStepEvident}
-use Rattle.pp_judge.specs.Running.{HasStarted, IsRejectionOf}
-use Rattle.pp_judge.specs.Tallies.{headed, one_more, scan_of}
+use Rattle.pp_judge.specs.Running.{HasStarted}
+use Rattle.pp_judge.specs.Tallies.{headed, scan_of}
 use Rattle.pp_judge.specs.declared.driven.Rejection.{Rejection}
 use Rattle.pp_judge.specs.declared.judge.Judged.TheVariants.{Good, Rejected}
 use Rattle.pp_judge.specs.laws.Driven.{empty_run}

@@ -8,6 +8,8 @@ use Rattle.pp_laws_summary.specs.Summary.{Summary, summary_of}
 use Rattle.pp_model.specs.Config.{first}
 use Rattle.pp_model.specs.Rules.{StartMeets}
 use Rattle.pp_objects.specs.Objects.{kinds_of, place_of}
+use Rattle.pp_objects.specs.Parts.{part_of}
+use Rattle.pp_kind_parts.specs.Silent.{silent_of}
 use Rattle.pp_objects.specs.declared.act.Op.{Op}
 use Rattle.pp_snapshots.specs.Costs.{AreTried, records_most}
 use Rattle.pp_judge.specs.Costs.{start_at_most}
@@ -24,7 +26,8 @@ first_summary header =
 -- what the start of a header and these records cost at most, one after another
 abbrev pub snapshots_most : Header → List (RunRecord Op) → ℕ
 snapshots_most header tried =
-    start_at_most (start_of header) + records_most place_of (first_summary header) tried
+    start_at_most (start_of header)
+    + records_most place_of part_of silent_of (first_summary header) tried
 
 -- The tried records after a header are all up to the first that is not good, this one included, or
 -- all if each is good.

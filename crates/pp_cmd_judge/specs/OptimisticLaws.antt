@@ -1,5 +1,5 @@
 -- Proof machinery: what holds of the snapshots with their number of steps as a judge.
-use Rattle.std.specs.Prelude.{◌≡◌, ◌≤◌, ◌+◌, ℕ, List, [], ◌∷◌, ◌++◌, length, Option, None, Some}
+use Rattle.std.specs.Prelude.{◌≡◌, ◌≤◌, ◌+◌, ℕ, Bool, List, [], ◌∷◌, ◌++◌, length, Option, None, Some}
 use Rattle.std.proofs.Common.{refl, sym, ap, ◌∙◌, subst, arith, length-append}
 use mathlib.Core.Logic.{inl, inr}
 use Rattle.pp_core.specs.declared.call.Kind.{Kind}
@@ -17,8 +17,11 @@ use Rattle.pp_model.specs.Config.{first}
 use Rattle.pp_model.specs.Object.{Object}
 use Rattle.pp_model.specs.Rules.{RunsFrom, StartMeets}
 use Rattle.pp_objects.specs.Objects.{kinds_of, objects, place_of}
+use Rattle.pp_objects.specs.Parts.{part_of}
+use Rattle.pp_kind_parts.specs.Silent.{silent_of}
 use Rattle.pp_objects.specs.declared.act.Op.{Op}
 use Rattle.pp_summary.specs.Failures.{all_steps}
+use Rattle.pp_kind.specs.declared.part.Part.{Part}
 use Rattle.pp_snapshots.specs.Costs.{AreTried, records_most, take_most}
 use Rattle.pp_snapshots.specs.Runs.{optimism}
 use Rattle.pp_input_reader.specs.declared.cause.Cause.TheVariants.{StyleNotJudged}
@@ -61,21 +64,23 @@ all_meet h rs judge c = (
 
 -- ---- of more records more are tried
 
-module _ {A State : Type 0} (O : Object A State) (place : A → ℕ) where
+module _ {A State : Type 0} (O : Object A State) (place : A → ℕ) (part : A → Part)
+    (silent : A → Bool) where
   tried_front : (rs : List (RunRecord A)) (B : Summary A) (more tried : List (RunRecord A)) →
       AreTried O place B (rs ++ more) tried
       → (front : List (RunRecord A)) × AreTried O place B rs front ×
-      (records_most place B front ≤ records_most place B tried)
+      (records_most place part silent B front ≤ records_most place part silent B tried)
   tried_front [] B more tried k = ([], refl, omega arith)
   tried_front (r ∷ rs) B more tried (inl k) =
-      let e : records_most place B tried ≡ take_most place B r + 0 =
-      ap (λ (z : List (RunRecord A)). records_most place B z) k.1 in
+      let e : records_most place part silent B tried ≡ take_most place part silent B r + 0 =
+      ap (λ (z : List (RunRecord A)). records_most place part silent B z) k.1 in
       (r ∷ [], inl (k.0, refl), omega (arith, e))
   tried_front (r ∷ rs) B more tried (inr k) =
       let next : Summary A = next_summary place Optimistic B r in
       let f = tried_front rs next more k.1.0 k.1.1 in
-      let e : records_most place B tried ≡ take_most place B r + records_most place next k.1.0 =
-      ap (λ (z : List (RunRecord A)). records_most place B z) k.1.2 in
+      let e : records_most place part silent B tried
+      ≡ take_most place part silent B r + records_most place part silent next k.1.0 =
+      ap (λ (z : List (RunRecord A)). records_most place part silent B z) k.1.2 in
       (r ∷ f.0, inr (k.0, (f.0, f.1, refl)), omega (arith, e, f.2))
 
 -- the counter rises at most by this
@@ -96,12 +101,14 @@ wider_most : (header : Lined Header) (rs more : Records (RunRecord Op)) (old new
     OfTriedAfter (Some header) (rs ++ more) (Most old new)
 wider_most header rs more old new most tried k =
     let B = first_summary header.what in
-    let f = tried_front (object_of header.what) place_of (bare rs) B (bare more) tried
+    let f = tried_front (object_of header.what) place_of part_of silent_of (bare rs) B (bare more)
+    tried
     (subst (λ (l : List (RunRecord Op)). AreTried (object_of header.what) place_of B l tried)
     (bare_append rs more) k) in
     up_more old new (snapshots_most header.what f.0) (snapshots_most header.what tried)
-    (most f.0 f.1) (add_le (start_at_most (start_of header.what)) (records_most place_of B f.0)
-    (records_most place_of B tried) f.2)
+    (most f.0 f.1) (add_le (start_at_most (start_of header.what))
+    (records_most place_of part_of silent_of B f.0)
+    (records_most place_of part_of silent_of B tried) f.2)
 
 most_widens : (sc wider : InputScan) (old new : ℕ) → Widens sc wider →
     SnapshotsCostAtMost sc old new → SnapshotsCostAtMost wider old new

@@ -1,5 +1,5 @@
 -- Proof machinery: what a judge knows of a run of which the start or a step is rejected.
-use Rattle.std.specs.Prelude.{◌≡◌, ℕ, suc, ◌++◌}
+use Rattle.std.specs.Prelude.{ℕ, suc, ◌++◌}
 use Rattle.std.proofs.Common.{sym, subst, append_assoc}
 use Rattle.pp_records.specs.Records.{RunRecord}
 use Rattle.pp_records.specs.Runs.{IsRun, Lined, LinedSteps, Records, bare}

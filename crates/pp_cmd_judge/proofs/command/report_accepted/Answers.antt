@@ -1,4 +1,4 @@
-use Rattle.std.proofs.Common.{◌≡◌, ◌+◌, List, length, refl, sym, ◌∙◌, ap, arith, subst, ◌<◌}
+use Rattle.std.proofs.Common.{◌≡◌, ◌+◌, List, length, sym, ◌∙◌, ap, arith, subst, ◌<◌}
 use Rattle.std.proofs.lemmas.Result.{IfOk-weaker}
 use Rattle.pp_core.specs.declared.entry.CommittedTx.{CommittedTx}
 use Rattle.pp_model.specs.Sound.{serial_ops}

@@ -1,12 +1,11 @@
-use Rattle.std.proofs.Common.{◌≡◌, ◌+◌, ◌∙◌, ap, subst, sym}
-use Rattle.pp_core.specs.Steps.{meaning, rule_of}
+use Rattle.std.proofs.Common.{◌+◌, ◌∙◌, ap, subst, sym}
+use Rattle.pp_core.specs.Steps.{meaning}
 use Rattle.pp_records.specs.Records.{Plain, record_meaning}
 use Rattle.pp_format_read.specs.Records.{IsReadable}
 use Rattle.pp_machine.specs.Costs.{CostsBy}
 use Rattle.pp_machine.specs.Stepping.{Stepped}
 use Rattle.pp_objects.specs.Objects.{objects, place_of}
 use Rattle.pp_judge.specs.Judging.{CostsAtMostThere, Judges}
-use Rattle.pp_judge.specs.declared.driven.Rejection.{Rejection}
 use Rattle.pp_judge.specs.declared.judge.Judged.TheVariants.{Good, Rejected}
 use Rattle.pp_cmd_judge.specs.Rules.{rules_judging}
 use Rattle.pp_cmd_judge.proofs.RuleSteps.{below_most, judges_bad, judges_good, judges_most, plain_styled, step_asked}
