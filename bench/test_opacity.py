@@ -6,38 +6,11 @@ import unittest
 from definition import verdict
 from definition_input import STYLES
 from opacity import opacity, zombie_at_apps, zombie_at_prefixes
-from random_lines import text_of
-from random_runs import Run
+from opaque import crowded
 from test_random_runs import made
 
 ROOT = pathlib.Path(__file__).resolve().parent.parent
 RUNS = 30
-LINES = 70
-WEIGHTS = {"retry": .5, "abort": .5, "refresh": .5, "xbegin": 12, "xend": 1, "xabort": .5}
-
-
-class Crowded(Run):
-    """A run of a careful memory with many calls of transactions that overlap, over few cells and with many values."""
-
-    def choose_care(self):
-        super().choose_care()
-        self.mistakes, self.hasty, self.wanted = 0, 0, None
-        self.weights.update({step: weight for step, weight in WEIGHTS.items() if step in self.weights})
-
-    def header(self):
-        self.keys, self.values, self.most_open = (0,), range(1, 10), self.chance.pick((3, 4, 5))
-        return super().header()
-
-    def count_objects(self):
-        return self.chance.pick((2, 3, 4))
-
-    def pick_kind(self):
-        return "mem" if self.style == "hardware" else self.chance.pick(("mem", "map", "counter"))
-
-
-def crowded(style, number):
-    run = Crowded(style, f"{style} crowded {number}", LINES)
-    return text_of(run.lines, run.chance, 0)
 
 
 def example(name):
@@ -63,7 +36,7 @@ class Opacity(unittest.TestCase):
     def test_crowded_runs(self):
         for style in STYLES:
             with self.subTest(style):
-                found = collections.Counter(self.check(crowded(style, number)) for number in range(RUNS))
+                found = collections.Counter(self.check(crowded(style, f"{style} crowded {number}")) for number in range(RUNS))
                 self.assertGreater(found["opaque"], 0, found)
                 self.assertEqual(found["zombie"] > 0, style != "boosted", found)
 

@@ -1,6 +1,9 @@
-//! The texts of the command `opaque`, which says whether an accepted run is opaque.
+//! The command `opaque`: whether an accepted run is opaque, and its first zombie if it is not.
 #![tactic(auto)]
 
+mod command;
+mod kept_run;
+mod report;
 mod text;
 
-pub use text::{opaque_text, zombie_text};
+pub use command::opaque;

@@ -20,7 +20,11 @@ fn write_counted(text: &mut Text, word: &[u8], number: usize) -> Result<(), OutO
 
 /// The text of an opaque run of so many steps and committed transactions. The only error is out of
 /// memory.
-pub fn opaque_text(alloc: Global, steps: usize, committed: usize) -> Result<Text, OutOfMemory>
+pub(crate) fn opaque_text(
+    alloc: Global,
+    steps: usize,
+    committed: usize,
+) -> Result<Text, OutOfMemory>
     ensures { IfOk result (λ text. text ≡ opaque_text steps committed) }
 {
     let mut text = Text::new(alloc);
@@ -56,9 +60,9 @@ fn view_text(alloc: Global, zombie: &Zombie<Op>) -> Result<Text, OutOfMemory>
     Ok(text)
 }
 
-/// The text of a run with this first zombie, which is there after a step of the record on this line.
-/// The only error is out of memory.
-pub fn zombie_text(
+/// The text of a run with this first zombie, which is there after a step of the record on this
+/// line. The only error is out of memory.
+pub(crate) fn zombie_text(
     alloc: Global,
     catalog: &Catalog,
     line: u32,

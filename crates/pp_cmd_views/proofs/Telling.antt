@@ -119,7 +119,8 @@ module _ (sc : InputScan) (tally : Tally) (machine : Seen (List Kind) Op) (steps
   abbrev run : LinedSteps Op
   run = run_so_far sc tally machine h.running
 
-  abbrev own_run : HasRun sc
+  -- the run of the scan
+  abbrev pub own_run : HasRun sc
   own_run = record {
     header = record { line = h.running.follows.at; what = tally.header };
     run = run;
@@ -127,13 +128,16 @@ module _ (sc : InputScan) (tally : Tally) (machine : Seen (List Kind) Op) (steps
     steps = is_run_so_far sc tally machine h.running;
   }
 
-  steps_are : steps ≡ bare run
+  -- The steps are those of the run of the scan.
+  pub steps_are : steps ≡ bare run
   steps_are = subst (λ (o : Option (Lined Header)). OfRun o sc.records (Are steps)) h.running.follows.header h.are run (is_run_so_far sc tally machine h.running)
 
-  met : StartMeets (object_of header) (start_of header)
+  -- The start meets its criteria.
+  pub met : StartMeets (object_of header) (start_of header)
   met = h.running.stands.begun
 
-  holds : RunsFrom (object_of header) (first (start_of header)) steps
+  -- Each step meets its criteria.
+  pub holds : RunsFrom (object_of header) (first (start_of header)) steps
   holds = subst (λ (w : List (Step Op)). RunsFrom (object_of header) (first (start_of header)) w) (sym steps_are) h.running.stands.hold
 
   -- The committed transactions of the machine are the attempts of the steps.

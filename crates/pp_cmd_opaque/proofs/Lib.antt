@@ -1,0 +1,5 @@
+pub mod Keeping
+pub mod Zombies
+pub mod Searching
+pub mod Reporting
+pub mod Deciding
