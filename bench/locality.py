@@ -14,7 +14,7 @@ objects in the header; here the header is restricted too. It is tested that
   criterion, with the same evidence. It is not checked which object this is.
 
 With `--program` it is also tested that the command `focus` of the program prints the same restrictions, line for line. Lines
-are compared as JSON values. For a run with a fault it must print the fault.
+are compared as JSON values. From what it prints `focus` prints the same text. For a run with a fault it must print the fault.
 
 The first run that breaks this is shown, and then the status is 1. A table has the number of runs with each verdict.
 """
@@ -149,8 +149,10 @@ def wrong_restriction(program, data, name):
     printed, status = focused(program, data, name)
     if status != 0:
         return f"focus {name} ends with {status}"
-    is_same = values_of(printed, True) == values_of(restricted(data.decode(), name), data.endswith(b"\n"))
-    return None if is_same else f"focus {name} prints another restriction"
+    if values_of(printed, True) != values_of(restricted(data.decode(), name), data.endswith(b"\n")):
+        return f"focus {name} prints another restriction"
+    is_kept = focused(program, printed.encode(), name) == (printed, 0)
+    return None if is_kept else f"focus {name} changes the restriction"
 
 
 def wrong_focus(program, data, report, status):

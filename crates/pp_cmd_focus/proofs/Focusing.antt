@@ -1,6 +1,7 @@
 -- The restriction of one line more.
-use Rattle.std.specs.Prelude.{◌≡◌, ℕ, List, [], ◌∷◌, ◌++◌, fold, if◌then◌else◌, Option, None, Some, OnErr, Result, Ok, Err}
+use Rattle.std.specs.Prelude.{◌≡◌, ℕ, List, [], ◌∷◌, ◌++◌, fold, map, if◌then◌else◌, Option, None, Some, OnErr, Result, Ok, Err}
 use Rattle.std.proofs.Common.{refl, sym, ap, ◌∙◌, append_assoc}
+use Rattle.std.proofs.lemmas.List.{map-append}
 use mathlib.Core.Logic.{inl, inr}
 use Rattle.pp_core.specs.Catalogs.{place_of as place_named}
 use Rattle.pp_records.specs.Records.{RunRecord}
@@ -28,7 +29,7 @@ use Rattle.pp_cmd_focus.specs.Located.{IsLocated, located_judging}
 use Rattle.pp_cmd_focus.specs.LocatedLaws.{located_laws}
 use Rattle.pp_cmd_focus.specs.Outputs.{FocusReadsNoFault}
 use Rattle.pp_cmd_focus.specs.Records.{known, split_last}
-use Rattle.pp_cmd_focus.specs.Restrictions.{last_written, lines_from, restricted_line, restriction, restricted_lines, written_in, written_on}
+use Rattle.pp_cmd_focus.specs.Restrictions.{last_written, lines_from, restricted_line, restricted_lines, restricted_text, restriction, with_return, written_in, written_on}
 use Rattle.pp_cmd_focus.specs.Subjects.{last_subject, subject_on, subject_written}
 use Rattle.pp_cmd_focus.specs.Taking.{CanWrite, FocusLeads, IsRead, focus_reading, progress_line, progress_shown}
 use Rattle.pp_cmd_focus.specs.declared.located.Located.{Located}
@@ -97,7 +98,7 @@ module _ (first now : ℕ) (from : Focus) (line : NumberedLine) (is : IsNext (fo
 
 -- A line that leads a run on leads its restriction on, with what is written of it.
 pub focus_on : (first now : ℕ) (from : Focus) (line : NumberedLine) (to : Progress Located Never) (new : ℕ) (text : List ℕ) → LeadsOn (judged_reading located_judging first) (from.progress, now) line (to, new)
-    → text ≡ from.text ++ progress_line from.name to line.1 ++ 10 ∷ [] → LeadsOn (focus_reading first) (from, now) line (record { name = from.name; progress = to; text = text }, new)
+    → text ≡ from.text ++ with_return (progress_line from.name to line.1) ++ 10 ∷ [] → LeadsOn (focus_reading first) (from, now) line (record { name = from.name; progress = to; text = text }, new)
 focus_on first now from line to new text leads written lines before =
     let most = judge_limits.transactions in
     let after = leads lines before.leads in
@@ -107,10 +108,11 @@ focus_on first now from line to new text leads written lines before =
     record {
       leads = after;
       text = written
-          ∙ ap (λ (front : List ℕ). front ++ progress_line from.name to line.1 ++ 10 ∷ []) before.text
-          ∙ ap (λ (bytes : List ℕ). joined_lines (restricted_lines from.name lines) ++ bytes ++ 10 ∷ []) shown
-          ∙ sym (joined_more (restricted_lines from.name lines) (restricted_line from.name (scan_line most (scan_lines most lines) line) line.1))
-          ∙ ap joined_lines (sym (lines_more most from.name nothing lines line));
+          ∙ ap (λ (front : List ℕ). front ++ with_return (progress_line from.name to line.1) ++ 10 ∷ []) before.text
+          ∙ ap (λ (bytes : List ℕ). restricted_text from.name lines ++ with_return bytes ++ 10 ∷ []) shown
+          ∙ sym (joined_more (map with_return (restricted_lines from.name lines)) (with_return (restricted_line from.name (scan_line most (scan_lines most lines) line) line.1)))
+          ∙ ap joined_lines (sym (map-append with_return (restricted_lines from.name lines) (restricted_line from.name (scan_line most (scan_lines most lines) line) line.1 ∷ [])))
+          ∙ ap (λ (ls : List (List ℕ)). joined_lines (map with_return ls)) (sym (lines_more most from.name nothing lines line));
     }
 
 -- A line at which the run stops is one at which its restriction stops.
@@ -121,7 +123,7 @@ focus_stops first now from line stop h = if_fault stop _ _ (λ at fault said lin
 pub focus_stops_with : (first now : ℕ) (from : Focus) (line : NumberedLine) (new : ℕ) → StopsWith (judged_reading located_judging first) (from.progress, now) line new → StopsWith (focus_reading first) (from, now) line new
 focus_stops_with first now from line new h lines leads = h lines leads.leads
 
--- Where the run goes on the counter is what it was before the first line.
+-- If the run goes on, the counter is what it was before the first line.
 pub focus_counts : (first now : ℕ) (from : Focus) (line : NumberedLine) (to : Progress Located Never) (new : ℕ) → LeadsOn (judged_reading located_judging first) (from.progress, now) line (to, new) → StopsWith (focus_reading first) (from, now) line new
 focus_counts first now from line to new leads lines before = counted (scan_lines judge_limits.transactions (lines ++ line ∷ [])) to first new (leads lines before.leads).covers
 

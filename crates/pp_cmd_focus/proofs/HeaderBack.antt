@@ -32,6 +32,7 @@ use Rattle.pp_format_read.specs.Optimistic.{optimistic_of}
 use Rattle.pp_format_read.specs.Hardware.{hardware_of}
 use Rattle.pp_format_read.specs.Dependent.{dependent_of}
 use Rattle.pp_format_read.specs.Records.{record_of}
+use Rattle.pp_format_write.specs.Lines.{IsOneLine}
 use Rattle.pp_format_write.specs.Operations.{arity_in, op_members}
 use Rattle.pp_format_write.specs.Headers.{object_value, objects_value, item_value, start_value}
 use Rattle.pp_format_write.specs.Statable.{IsCatalog, IsId, IsOpOn, IsStatableStart}
@@ -42,10 +43,10 @@ use Rattle.pp_format_write.proofs.Names.{named_at}
 use Rattle.pp_format_write.proofs.NamesBack.{name_back}
 use Rattle.pp_format_write.proofs.Operations.{there, op_tidy, near_numbers}
 use Rattle.pp_format_write.proofs.OperationsBack.{op_back}
-use Rattle.pp_format_write.proofs.Steps.{answer_flat, near_step, shallow}
+use Rattle.pp_format_write.proofs.Steps.{answer_flat, near_step, shallow, statable_short}
 use Rattle.pp_format_write.proofs.StepsBack.{id_back}
-use Rattle.pp_format_write.proofs.Texts.{AreTidy, HasTidy, IsNear, IsTidy, items_width, short_text, value_back}
-use Rattle.pp_format_write.proofs.Words.{IsWord}
+use Rattle.pp_format_write.proofs.Texts.{AreTidy, HasTidy, IsNear, IsTidy, clean, items_width, short_text, value_back}
+use Rattle.pp_format_write.proofs.Words.{IsWord, one_line}
 use Rattle.pp_cmd_focus.specs.Headers.{plain_value, started_value}
 
 -- ---- words
@@ -113,6 +114,10 @@ module _ (entry : List ℕ × Kind) (name : IsName entry.0) where
 
     plain_near : IsTidy IsNear (plain_value (objects_value one) s)
     plain_near = (refl, (refl, objects_tidy IsNear one (name, tt), (refl, omega arith, (refl, style_is_word s, tt))))
+
+    -- The line of a header over one object without a start has no byte below 32.
+    pub plain_one_line : IsOneLine (compact_text (plain_value (objects_value one) s))
+    plain_one_line = one_line (compact_text (plain_value (objects_value one) s)) (clean IsNear (plain_value (objects_value one) s) plain_near)
 
     plain_shallow : depth (plain_value (objects_value one) s) ≤ max_depth
     plain_shallow = omega (arith, objects_flat one)
@@ -188,6 +193,10 @@ module _ (entry : List ℕ × Kind) (name : IsName entry.0) where
         let bytes = h.named.bytes in
         (refl, (refl, objects_tidy IsNear one (name, tt), (refl, omega arith, (refl, (refl, (refl, near_items start.ops h.each, (refl, bytes, tt))), (refl, style_is_word s, tt)))))
 
+    -- The line of a header over one object with a start has no byte below 32.
+    pub started_one_line : IsOneLine (compact_text started)
+    started_one_line = one_line (compact_text started) (clean IsNear started started_near)
+
     started_shallow : depth started ≤ max_depth
     started_shallow = omega (arith, objects_flat one, ops_depth start.ops)
 
@@ -228,3 +237,11 @@ module _ (tx thread : List ℕ) (named : IsName tx) (also : IsName thread) where
   begin_back header =
       record_read header (step_bytes [] (Begin tx thread None))
       (value_back (step_value [] (Begin tx thread None)) (near_step [] (Begin tx thread None) tt (named, also, tt)) (shallow [] (Begin tx thread None) (named, also, tt)))
+
+  -- The line of a begin without a body has no byte below 32.
+  pub begin_one_line : IsOneLine (step_bytes [] (Begin tx thread None))
+  begin_one_line = one_line (step_bytes [] (Begin tx thread None)) (clean IsNear (step_value [] (Begin tx thread None)) (near_step [] (Begin tx thread None) tt (named, also, tt)))
+
+  -- It has at most 230 bytes.
+  pub begin_short : length (step_bytes [] (Begin tx thread None)) ≤ 230
+  begin_short = statable_short [] (Begin tx thread None) (record { few = omega arith; distinct = λ n i j a b. absurd (cc); named = tt }) (named, also, tt)

@@ -20,6 +20,8 @@ use Rattle.pp_objects.specs.declared.act.Op.{Op}
 use Rattle.pp_format_read.specs.declared.header.Header.{Header}
 use Rattle.pp_format_read.specs.declared.start.Start.{Start}
 use Rattle.pp_format_read.specs.Headers.{header_of}
+use Rattle.pp_input.specs.Lines.{blank}
+use Rattle.pp_format_write.specs.Lines.{IsOneLine}
 use Rattle.pp_format_write.specs.Headers.{item_value, objects_value, start_value}
 use Rattle.pp_format_write.specs.Statable.{CanStart, IsId, IsOpOn, IsStatableStart}
 use Rattle.pp_format_write.proofs.HeadersRead.{can_start, is_catalog}
@@ -27,7 +29,7 @@ use Rattle.pp_format_write.proofs.NamesBack.{named_place}
 use Rattle.pp_text.specs.Texts.{name_at}
 use Rattle.pp_cmd_focus.specs.Headers.{header_bytes, header_value, items_on, object_at, plain_value, started_value}
 use Rattle.pp_cmd_focus.specs.Moved.{moved, moved_header, moved_item, moved_start}
-use Rattle.pp_cmd_focus.proofs.HeaderBack.{plain_back, plain_short, started_back, started_short}
+use Rattle.pp_cmd_focus.proofs.HeaderBack.{plain_back, plain_one_line, plain_short, started_back, started_one_line, started_short}
 
 -- ---- the object at a place
 
@@ -107,7 +109,7 @@ module _ (catalog : Objects) (o : ℕ) (entry : List ℕ × Kind) (at : slice_ge
 
 module _ (header : Header) (o : ℕ) (entry : List ℕ × Kind) (at : slice_get header.catalog o ≡ Some entry) (name : IsName entry.0) where
   IsRead : Data → Objects → Option Start → Type 0
-  IsRead d catalog start = (header_of (compact_text d) ≡ Ok (record { style = header.style; catalog = catalog; start = start })) × (length (compact_text d) < 60_000)
+  IsRead d catalog start = (header_of (compact_text d) ≡ Ok (record { style = header.style; catalog = catalog; start = start })) × (length (compact_text d) < 60_000) × IsOneLine (compact_text d) × (blank (compact_text d) ≡ false)
 
   IsBack : Option Start → Type 0
   IsBack start = IsRead (header_value o header start) (object_at o header.catalog) (option_map (λ z. moved_start o z) start)
@@ -134,16 +136,16 @@ module _ (header : Header) (o : ℕ) (entry : List ℕ × Kind) (at : slice_get 
   unfolding IsBack IsRead
   with_start None h =
       subst (λ (c : Objects). IsRead (header_value o header None) c None) (sym only_is)
-      (subst (λ (e : Data). IsRead e only None) (sym plain_same) (plain_back entry name header.style, plain_short entry name header.style))
+      (subst (λ (e : Data). IsRead e only None) (sym plain_same) (plain_back entry name header.style, plain_short entry name header.style, plain_one_line entry name header.style, refl))
   with_start (Some start) h =
       let s = statable header.catalog o entry at start h in
       let z = moved_start o start in
       subst (λ (c : Objects). IsRead (header_value o header (Some start)) c (Some z)) (sym only_is)
-      (subst (λ (e : Data). IsRead e only (Some z)) (sym (started_same start)) (started_back entry name header.style z s, started_short entry name header.style z s))
+      (subst (λ (e : Data). IsRead e only (Some z)) (sym (started_same start)) (started_back entry name header.style z s, started_short entry name header.style z s, started_one_line entry name header.style z s, refl))
 
--- The line of a header over one of its objects is read as this header, and it is short.
+-- The line of a header over one of its objects is read as this header. It is short, and it has no byte below 32 and is not blank.
 pub header_back : (line : List ℕ) (header : Header) (o : ℕ) (name : List ℕ) → header_of line ≡ Ok header → place_named name header.catalog ≡ Some o
-    → (header_of (header_bytes o header) ≡ Ok (moved_header o header)) × (length (header_bytes o header) < 60_000)
+    → (header_of (header_bytes o header) ≡ Ok (moved_header o header)) × (length (header_bytes o header) < 60_000) × IsOneLine (header_bytes o header) × (blank (header_bytes o header) ≡ false)
 unfolding IsBack IsRead
 header_back line header o name read place =
     let cat = is_catalog line header read in

@@ -9,3 +9,7 @@ mod Readings
 mod HeaderBack
 mod HeaderMoved
 pub mod Again
+mod RawLines
+mod OtherFaults
+mod LineEnds
+pub mod TextAgain

@@ -14,16 +14,16 @@ use Rattle.pp_judge.specs.Scans.{InputScan}
 use Rattle.pp_cmd_judge.specs.Inputs.{early_judge_scan, judge_scan}
 use Rattle.pp_cmd_focus.specs.Restrictions.{restriction}
 
--- the fault of a header on this line, if the object of a name has this place, or no place, in it
-abbrev pub unless_there : ℕ → Option ℕ → Option (ℕ × Cause)
-unless_there line None = Some (line, UnknownObject)
-unless_there line (Some o) = None
+-- the fault of a header on this line, if an object has this place in it, or none
+abbrev pub missing_object : ℕ → Option ℕ → Option (ℕ × Cause)
+missing_object line None = Some (line, UnknownObject)
+missing_object line (Some o) = None
 
 -- the fault of a header that has no object of this name
 abbrev pub unknown_object : List ℕ → Option (Lined Header) → Option (ℕ × Cause)
 unknown_object name None = None
 unknown_object name (Some header) =
-    unless_there header.line (place_named name header.what.catalog)
+    missing_object header.line (place_named name header.what.catalog)
 
 -- The fault of an input for this name: that of its scan, or else that its header has no object of
 -- this name.
@@ -36,18 +36,19 @@ FocusReadsNoFault old new =
     (bytes : List ℕ) × Consumes old new bytes × ((early_judge_scan bytes).fault ≡ None)
 
 -- the status and the text: the fault, or else the restriction
-abbrev pub focus_told : List ℕ → List ℕ → Option (ℕ × Cause) → Status × List ℕ
-focus_told name bytes None = (statuses.Accepted, restriction name bytes)
-focus_told name bytes (Some (line, cause)) = (statuses.InputFault, fault_text line cause)
+abbrev pub fault_or_restriction : List ℕ → List ℕ → Option (ℕ × Cause) → Status × List ℕ
+fault_or_restriction name bytes None = (statuses.Accepted, restriction name bytes)
+fault_or_restriction name bytes (Some (line, cause)) =
+    (statuses.InputFault, fault_text line cause)
 
 -- what is printed of an input
 abbrev pub focused : List ℕ → List ℕ → Status × List ℕ
-focused name bytes = focus_told name bytes (focus_fault name (judge_scan bytes))
+focused name bytes = fault_or_restriction name bytes (focus_fault name (judge_scan bytes))
 
 -- the status and the text are what is printed
 abbrev pub IsFocused : List ℕ → List ℕ → Status → List ℕ → Type 0
 IsFocused name bytes status text = (status, text) ≡ focused name bytes
 
--- the status of what is printed
-abbrev pub IsToldStatus : Status → Type 0
-IsToldStatus status = (status ≡ statuses.Accepted) ⊎ (status ≡ statuses.InputFault)
+-- accepted, or a fault of the input
+abbrev pub IsFocusStatus : Status → Type 0
+IsFocusStatus status = (status ≡ statuses.Accepted) ⊎ (status ≡ statuses.InputFault)

@@ -1,6 +1,7 @@
 -- Meaning: the restriction of an input to an object, line for line. Below, o is the place of the
 -- object in the header of the input.
-use Rattle.std.specs.Prelude.{ℕ, List, [], ◌∷◌, if◌then◌else◌, Option, None, Some}
+use Rattle.std.specs.Prelude.{ℕ, ◌-◌, ◌==◌, List, [], ◌∷◌, ◌++◌, length, map, slice_index}
+use Rattle.std.specs.Prelude.{if◌then◌else◌, Option, None, Some}
 use Rattle.pp_core.specs.Catalogs.{place_of as place_named}
 use Rattle.pp_records.specs.Records.{RunRecord}
 use Rattle.pp_records.specs.Runs.{Lined, Records}
@@ -49,6 +50,15 @@ lines_from most name sc (line ∷ lines) =
 abbrev pub restricted_lines : List ℕ → List NumberedLine → List (List ℕ)
 restricted_lines name lines = lines_from judge_limits.transactions name nothing lines
 
+-- A byte 13 at the end of a line is written twice, since whoever reads the line drops one.
+abbrev pub with_return : List ℕ → List ℕ
+with_return line =
+    if slice_index line (length line - 1) == 13 then line ++ 13 ∷ [] else line
+
+-- the text of the restriction of lines
+abbrev pub restricted_text : List ℕ → List NumberedLine → List ℕ
+restricted_text name lines = joined_lines (map with_return (restricted_lines name lines))
+
 -- the restriction of an input to the object of this name
 abbrev pub restriction : List ℕ → List ℕ → List ℕ
-restriction name bytes = joined_lines (restricted_lines name (scanned_lines judge_limits bytes))
+restriction name bytes = restricted_text name (scanned_lines judge_limits bytes)

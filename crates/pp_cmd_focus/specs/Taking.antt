@@ -1,6 +1,5 @@
 -- Proof machinery: the restriction of the lines so far, and what comes of the next line.
 use Rattle.std.specs.Prelude.{◌≡◌, ℕ, List, [], if◌then◌else◌, Option, None, Some}
-use Rattle.pp_input.specs.Joined.{joined_lines}
 use Rattle.pp_input.specs.Lines.{NumberedLine, blank}
 use Rattle.pp_format_write.specs.Statable.{IsWritableStart}
 use Rattle.pp_input_reader.specs.declared.cause.Cause.{Cause}
@@ -14,7 +13,7 @@ use Rattle.pp_judge.specs.declared.progress.Progress.{Progress}
 use Rattle.pp_judge.specs.declared.progress.Progress.TheVariants as progresses
 use Rattle.pp_cmd_judge.specs.Inputs.{judge_scan}
 use Rattle.pp_cmd_focus.specs.Located.{located_judging}
-use Rattle.pp_cmd_focus.specs.Restrictions.{restricted_lines, restriction}
+use Rattle.pp_cmd_focus.specs.Restrictions.{restricted_text, restriction}
 use Rattle.pp_cmd_focus.specs.Subjects.{subject_in}
 use Rattle.pp_cmd_focus.specs.declared.located.Located.{Located}
 use Rattle.pp_cmd_focus.specs.declared.located.Never.{Never}
@@ -42,7 +41,7 @@ progress_line name progress bytes =
 -- these lines led to here, and the text is their restriction
 pub record FocusLeads (lines : List NumberedLine) (at : Focus) (old new : ℕ) : Type 0 where
   pub leads : Leads located_judging lines at.progress old new
-  pub text : at.text ≡ joined_lines (restricted_lines at.name lines)
+  pub text : at.text ≡ restricted_text at.name lines
 
 -- what lines of an input lead to, and their faults, which are those of the scan
 abbrev pub focus_reading : ℕ → Reading (Focus × ℕ) Cause

@@ -7,7 +7,7 @@ ghost use Rattle.pp_input_reader.specs.Sources.{WhereTold};
 ghost use Rattle.pp_input_reader.specs.declared.stop.Failure.TheVariants.{ReadFault};
 ghost use Rattle.pp_input.specs.Limits.{HasNext};
 ghost use Rattle.pp_judge.specs.Progresses.{lines_of};
-ghost use Rattle.pp_cmd_focus.specs.Outputs.{FocusReadsNoFault, IsFocused, IsToldStatus};
+ghost use Rattle.pp_cmd_focus.specs.Outputs.{FocusReadsNoFault, IsFocusStatus, IsFocused};
 ghost use Rattle.pp_cmd_focus.specs.Restrictions.{restriction};
 ghost use Rattle.pp_cmd_focus.specs.Taking.{IsRead, IsWhole};
 
@@ -28,9 +28,9 @@ fn report_restriction(
     located: &Located,
     text: Text,
 ) -> Result<(Status, Text), Failure>
-    ensures told { IfOk result (λ r. (bytes : List ℕ) → IsWhole bytes tally.now located.now →
+    ensures output { IfOk result (λ r. (bytes : List ℕ) → IsWhole bytes tally.now located.now →
         text ≡ restriction name.now bytes → IsFocused name.now bytes r.0 r.1) }
-    ensures status { IfOk result (λ r. IsToldStatus r.0) }
+    ensures status { IfOk result (λ r. IsFocusStatus r.0) }
     ensures memory { ¬ IsErrOf result ReadFault }
 {
     if tally.header.catalog.place(name).is_some() {
@@ -41,29 +41,25 @@ fn report_restriction(
 }
 
 /// The status and the text of an input that was read to its end.
-fn conclude(alloc: Global, name: &Name, focus: Focus) -> Result<(Status, Text), Failure>
+fn conclude(alloc: Global, focus: Focus) -> Result<(Status, Text), Failure>
     requires { HasNext (lines_of focus.progress) }
-    ensures told { IfOk result (λ r. (old new : Option (List ℕ)) →
-        IsRead old new focus → WhereTold old λ bytes. IsFocused name.now bytes r.0 r.1) }
-    ensures status { IfOk result (λ r. IsToldStatus r.0) }
+    ensures output { IfOk result (λ r. (old new : Option (List ℕ)) →
+        IsRead old new focus → WhereTold old λ bytes. IsFocused focus.name bytes r.0 r.1) }
+    ensures status { IfOk result (λ r. IsFocusStatus r.0) }
     ensures memory { ¬ IsErrOf result ReadFault }
 {
     let Focus {
-        name: kept,
+        name,
         progress,
         text,
     } = focus;
-    // The contract of `read_lines` does not say that the name is the one that was given. It is.
-    if !kept.same(name) {
-        return Err(Failure::OutOfMemory);
-    }
     match progress {
         Progress::Waiting(lines) => {
             let text = fault(alloc, lines + 1, &Cause::NoHeader)?;
             Ok((Status::InputFault, text))
         }
         Progress::Running(tally, located) => {
-            report_restriction(alloc, name, &tally, &located, text)
+            report_restriction(alloc, &name, &tally, &located, text)
         }
         Progress::Rejected(_, never) => match never {},
     }
@@ -79,7 +75,7 @@ pub fn focus<S: Source, L: Ledger>(
 ) -> Result<(Status, Text), Failure>
     ensures output { IfOk result (λ r. WhereTold (S.left source.old) λ bytes.
         IsFocused name bytes r.0 r.1) }
-    ensures status { IfOk result (λ r. IsToldStatus r.0) }
+    ensures status { IfOk result (λ r. IsFocusStatus r.0) }
     ensures end { IfOk result (λ r. r.0 ≡ statuses.Accepted → IsAtEnd (S.left source.new)) }
     ensures read_fault { IsErrOf result ReadFault →
         HasRisen (S.faults source.old) (S.faults source.new)
@@ -94,7 +90,7 @@ pub fn focus<S: Source, L: Ledger>(
         text: Text::new(alloc),
     };
     match read_lines(alloc, source, first, ticks) {
-        Ok(last) => conclude(alloc, &name, last),
+        Ok(last) => conclude(alloc, last),
         Err(Stop::Fault(line, cause)) => {
             let text = fault(alloc, line, &cause)?;
             Ok((Status::InputFault, text))

@@ -2,6 +2,7 @@
 #![tactic(auto)]
 
 mod command;
+mod ending;
 mod header;
 mod line;
 mod located;

@@ -1,9 +1,11 @@
 //! Writing the restriction of a line.
 ghost use Rattle.std.specs.Prelude.{◌≡◌, ◌++◌, [], ◌∷◌, OnOk};
 ghost use Rattle.pp_format_write.specs.Statable.{IsWritableStart};
+ghost use Rattle.pp_cmd_focus.specs.Restrictions.{with_return};
 ghost use Rattle.pp_cmd_focus.specs.Subjects.{subject_in, subject_written};
 ghost use Rattle.pp_cmd_focus.specs.Taking.{CanWrite, progress_line, progress_shown};
 
+use crate::ending::end_line;
 use crate::header::header_line;
 use crate::located::{Located, Never};
 use crate::subject::Subject;
@@ -96,13 +98,14 @@ pub(crate) fn write_line(
     text: &mut Text,
 ) -> Result<(), OutOfMemory>
     requires { CanWrite progress.now }
-    ensures { OnOk result
-        (text.new ≡ text.old ++ progress_line name.now progress.now bytes.now ++ 10 ∷ []) }
+    ensures { OnOk result (text.new ≡ text.old
+        ++ with_return (progress_line name.now progress.now bytes.now) ++ 10 ∷ []) }
 {
+    let start = text.len();
     if is_blank(bytes) {
         text.append(bytes)?;
     } else {
         write_shown(alloc, name, progress, bytes, text)?;
     }
-    text.push(b'\n')
+    end_line(text, start)
 }

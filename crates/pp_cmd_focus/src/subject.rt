@@ -75,7 +75,7 @@ fn subject_of_step(
     }
 }
 
-/// What a record is about, where the ids that were applied are on these objects.
+/// What a record is about, if the ids that were applied are on these objects.
 pub(crate) fn subject_of(
     alloc: Global,
     catalog: &Catalog,

@@ -23,6 +23,8 @@ impl TakesLines for Focus {
 
     ghost reading = { focus_reading };
 
+    ghost given = { λ focus. focus.name };
+
     fn limits() -> Limits {
         limits()
     }

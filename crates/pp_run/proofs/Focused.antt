@@ -5,18 +5,18 @@ use Rattle.pp_core.specs.declared.status.Status.{Status}
 use Rattle.pp_core.specs.declared.status.Status.TheVariants as statuses
 use Rattle.pp_input_reader.specs.declared.cause.Cause.{Cause}
 use Rattle.pp_cmd_judge.specs.Inputs.{judge_scan}
-use Rattle.pp_cmd_focus.specs.Outputs.{IsFocused, IsToldStatus, focus_fault, focus_told}
+use Rattle.pp_cmd_focus.specs.Outputs.{IsFocusStatus, IsFocused, fault_or_restriction, focus_fault}
 use Rattle.pp_cmd_focus.specs.Restrictions.{restriction}
 use Rattle.pp_run.specs.Promises.{IsFocusedExactly}
 
 module _ (name bytes : List ℕ) where
   abbrev Told : Option (ℕ × Cause) → Status → List ℕ → Type 0
-  Told fault s text = (s, text) ≡ focus_told name bytes fault
+  Told fault s text = (s, text) ≡ fault_or_restriction name bytes fault
 
   status_of : (r r' : Status × List ℕ) → r ≡ r' → r.0 ≡ r'.0
   status_of r r' is = ap (λ (p : Status × List ℕ). p.0) is
 
-  exactly : (fault : Option (ℕ × Cause)) (s : Status) (text : List ℕ) → Told fault s text → ((s ≡ statuses.Accepted) ↔ (fault ≡ None)) × IsToldStatus s
+  exactly : (fault : Option (ℕ × Cause)) (s : Status) (text : List ℕ) → Told fault s text → ((s ≡ statuses.Accepted) ↔ (fault ≡ None)) × IsFocusStatus s
   exactly None s text is = ((λ e. refl, λ e. status_of _ _ is), inl (status_of _ _ is))
   exactly (Some (line, cause)) s text is =
       let fault : s ≡ statuses.InputFault = status_of _ _ is in

@@ -3,12 +3,12 @@ use Rattle.std.specs.Prelude.{◌≡◌, ◌⊎◌, ℕ, List, Option, None, Som
 use Rattle.std.proofs.Common.{inl, inr, subst, sym}
 use Rattle.pp_core.specs.declared.status.Status.{Status}
 use Rattle.pp_core.specs.declared.status.Status.TheVariants as statuses
-use Rattle.pp_cmd_focus.specs.Outputs.{IsToldStatus}
+use Rattle.pp_cmd_focus.specs.Outputs.{IsFocusStatus}
 use Rattle.pp_judge.specs.Certified.{IsDecided}
 use Rattle.pp_run.specs.Bounds.{RisesAtLeast}
 use Rattle.pp_run.specs.Outputs.{IsVerdictOrSize}
 use Rattle.pp_run.specs.declared.words.Command.{Command}
-use Rattle.pp_run.specs.declared.words.Command.TheVariants.{Certify, Drill, Expand, Focus, Judge, Quick, Recheck, Swaps, Views}
+use Rattle.pp_run.specs.declared.words.Command.TheVariants.{Certify, Drill, Expand, Focus, Judge, Opaque, Quick, Recheck, Swaps, Views}
 
 -- a verdict or a fault is a status of `perform`
 pub answered : (s : Status) → IsDecided s ⊎ (s ≡ statuses.InputFault) → IsVerdictOrSize s ⊎ (s ≡ statuses.InputFault)
@@ -22,7 +22,7 @@ checked s (inr (inl rejected)) = inl (inl (subst IsDecided (sym rejected) tt))
 checked s (inr (inr fault)) = inr fault
 
 -- Accepted or a fault is a status of `perform`.
-pub focused : (s : Status) → IsToldStatus s → IsVerdictOrSize s ⊎ (s ≡ statuses.InputFault)
+pub focused : (s : Status) → IsFocusStatus s → IsVerdictOrSize s ⊎ (s ≡ statuses.InputFault)
 focused s (inl accepted) = inl (inl (subst IsDecided (sym accepted) tt))
 focused s (inr fault) = inr fault
 
@@ -52,7 +52,7 @@ checked_fits s (inr (inl rejected)) large = let no : statuses.Rejected ≡ statu
 checked_fits s (inr (inr fault)) large = let no : statuses.InputFault ≡ statuses.TooLarge = cc in cc
 
 -- Accepted or a fault does not say that the output is above a limit.
-pub focused_fits : (s : Status) → IsToldStatus s → s ≡ statuses.TooLarge → ⊥
+pub focused_fits : (s : Status) → IsFocusStatus s → s ≡ statuses.TooLarge → ⊥
 focused_fits s (inl accepted) large = let no : statuses.Accepted ≡ statuses.TooLarge = cc in cc
 focused_fits s (inr fault) large = let no : statuses.InputFault ≡ statuses.TooLarge = cc in cc
 
@@ -66,5 +66,6 @@ no_verdict_no_least (Some Quick) left s old new none = λ decided. absurd (none 
 no_verdict_no_least (Some Swaps) left s old new none = λ decided. absurd (none decided)
 no_verdict_no_least (Some Recheck) left s old new none = λ accepted. absurd (none (subst IsDecided (sym accepted) tt))
 no_verdict_no_least (Some Views) left s old new none = λ decided. absurd (none decided)
+no_verdict_no_least (Some Opaque) left s old new none = λ decided. absurd (none decided)
 no_verdict_no_least (Some (Drill n)) left s old new none = λ accepted. absurd (none (subst IsDecided (sym accepted) tt))
 no_verdict_no_least (Some (Focus name)) left s old new none = tt

@@ -9,6 +9,7 @@ use Rattle.pp_judge.specs.Objects.{object_of, translation_of}
 use Rattle.pp_judge.specs.Reports.{IsCertified}
 use Rattle.pp_judge.specs.Scans.{InputScan}
 use Rattle.pp_cmd_focus.proofs.Again.{lines_read_again}
+use Rattle.pp_cmd_focus.proofs.TextAgain.{text_read_again}
 use Rattle.pp_cmd_focus.specs.Outputs.{IsFocused, focused}
 use Rattle.pp_cmd_quick.proofs.Decided.{decided}
 use Rattle.pp_cmd_quick.proofs.Readers.{briefs_decide, is_briefed, keeps_boosted}
@@ -138,5 +139,6 @@ run_laws =
       readable = reports_readable;
       local = runs_local;
       read_again = lines_read_again;
+      text_read_again = text_read_again;
       styles_fail_only = reported_law;
     }

@@ -19,7 +19,7 @@ use Rattle.pp_judge.specs.Accepted.{HasRun}
 use Rattle.pp_judge.specs.Objects.{object_of, setting_of, start_of, translation_of}
 use Rattle.pp_judge.specs.Reports.{RunReport}
 use Rattle.pp_judge.specs.Scans.{InputScan}
-use Rattle.pp_cmd_focus.specs.Outputs.{IsToldStatus, focus_fault}
+use Rattle.pp_cmd_focus.specs.Outputs.{IsFocusStatus, focus_fault}
 use Rattle.pp_cmd_judge.specs.Inputs.{judge_scan}
 use Rattle.pp_cmd_quick.specs.Costs.{AreTriedBehind}
 use Rattle.pp_cmd_quick.specs.Decisions.{Decision, IsDecision, IsDecisionOf, IsVerdictBehind}
@@ -76,4 +76,4 @@ SeesKept sc = (r : HasRun sc) →
 abbrev pub IsFocusedExactly : List ℕ → List ℕ → Status → Type 0
 IsFocusedExactly name bytes status =
     ((status ≡ statuses.Accepted) ↔ (focus_fault name (judge_scan bytes) ≡ None))
-    × IsToldStatus status
+    × IsFocusStatus status

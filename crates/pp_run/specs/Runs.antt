@@ -7,7 +7,7 @@ use Rattle.pp_objects.specs.Objects.{place_of}
 use Rattle.pp_judge.specs.Objects.{object_of}
 use Rattle.pp_laws_summary.specs.LocalLogs.{HasSummary}
 use Rattle.pp_laws_locality.specs.Locality.{IsLocal}
-use Rattle.pp_cmd_focus.specs.Again.{LinesReadAgain}
+use Rattle.pp_cmd_focus.specs.Again.{LinesReadAgain, TextReadAgain}
 use Rattle.pp_laws_runs.specs.Prefixes.{CertifiedPrefixLaw, PrefixLaw}
 use Rattle.pp_laws_reports.specs.Readable.{CertifyLaw, QuickLaw, ReportLaw}
 use Rattle.pp_run.specs.declared.words.Command.{Command}
@@ -53,6 +53,9 @@ pub record RunLaws : Type 0 where
   -- Each line that `focus` prints of a header or of a record is read again without a fault. It is
   -- the header over that object alone, or what is left of the record.
   pub read_again : LinesReadAgain
+  -- So what `focus` prints of an input without a fault is an input without a fault, of the same
+  -- style and with as many lines. What is left of a record is on the line that the record had.
+  pub text_read_again : TextReadAgain
   -- In the four recorded styles only the criteria that `breakable` lists can be the first violated.
   -- This holds under `certify` and under `judge`, however many steps come before.
   pub styles_fail_only : ReportedLaw
