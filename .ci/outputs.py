@@ -20,8 +20,8 @@ MADE = re.compile(r"^ {4}\$ \./pp_cli (drill \d+)\n((?: {4}.+\n)*)", re.MULTILIN
 REPORTS = ("certify", "recheck")
 TOO_LONG = 4_096 * (65_536 * b" " + b"\n")
 STATUS = {
-    "accepted": 0, "drill": 0, "quick accepted": 0, '{"certificate":1': 0, "holds": 0, '{"objects"': 0,
-    "rejected": 1, "quick rejected": 1, "refused": 1,
+    "accepted": 0, "drill": 0, "opaque": 0, "quick accepted": 0, '{"certificate":1': 0, "holds": 0, '{"objects"': 0,
+    "rejected": 1, "quick rejected": 1, "refused": 1, "zombie": 1,
     "fault": 3, "toolarge": 7,
 }
 

@@ -30,10 +30,11 @@ PROGRAM_COMMANDS = {
     "quick": "decide a run of style boosted, of any number of steps",
     "expand": "print the steps that the records of a run stand for, as a run of style rules",
     "views": "print for each attempt of an accepted run what it saw",
+    "opaque": "decide whether each attempt of an accepted run saw a consistent state",
     "swaps": "print the certificate of an accepted run",
     "recheck": "check a certificate that `swaps` wrote",
 }
-BRIEF_COMMANDS = ("certify", "judge", "quick", "views", "recheck")
+BRIEF_COMMANDS = ("certify", "judge", "quick", "views", "opaque", "recheck")
 STATUS_TEXT = """\
 The status is that of the program: 0 accepted, 1 rejected, 3 a fault of the input, 7 too large to print; with several
 files it is the greatest. `picture` ends with 0 if it printed a page. Statuses of this script: 64 wrong arguments, 65 a run

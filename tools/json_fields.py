@@ -15,6 +15,8 @@ def fields_of(command, report):
         fields["views"] = [view_fields(line) for line in report.lines_of("view")]
     elif report.verdict == "accepted" and command != "drill":
         fields["transactions"] = transactions_of(report)
+    elif report.verdict == "zombie":
+        fields.update(zombie_fields(report))
     elif report.verdict == "holds":
         fields["serial_run"] = [operation_fields(line) for line in report.lines_of("op")]
     if report.lines_of("state"):
@@ -41,6 +43,12 @@ def transactions_of(report):
 def states_of(report):
     """The items of each object, by its name."""
     return {line.split()[1]: line.split()[2:] for line in report.lines_of("state")}
+
+
+def zombie_fields(report):
+    """The transaction of a zombie, its window, and its operations."""
+    _, name, _, _, _, least, _, most = report.lines[1].split()
+    return {"transaction": name, "from": int(least), "to": int(most), "operations": [operation_fields(line) for line in report.lines_of("op")]}
 
 
 def view_fields(line):

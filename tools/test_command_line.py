@@ -11,7 +11,7 @@ import command_line
 from for_tests import EXAMPLES, PROGRAM, TOOLS, example, needs_program, pozhiqas, run_bytes
 from test_order import CYCLE, SKEW
 
-COMMANDS = ("certify", "judge", "quick", "expand", "views", "swaps", "recheck", "check", "why", "order", "picture")
+COMMANDS = ("certify", "judge", "quick", "expand", "views", "opaque", "swaps", "recheck", "check", "why", "order", "picture")
 
 
 def path_of(name):
@@ -41,6 +41,7 @@ class Outputs(Temporary):
         rows = [("certify", "accepted.jsonl"), ("certify", "rejected_race.jsonl"), ("certify", "fault.jsonl"),
                 ("judge", "boosted.jsonl"), ("judge", "rejected_boosted_lock.jsonl"), ("quick", "boosted.jsonl"),
                 ("expand", "rejected_optimistic.jsonl"), ("views", "zombie_read.jsonl"),
+                ("opaque", "boosted.jsonl"), ("opaque", "zombie_read.jsonl"), ("opaque", "rejected_race.jsonl"),
                 ("swaps", "accepted.jsonl"), ("recheck", "certificate.jsonl"), ("recheck", "refused_certificate.jsonl")]
         for command, name in rows:
             with self.subTest(command, name=name):
@@ -158,6 +159,10 @@ class Json(Temporary):
     def test_other_commands(self):
         views = self.fields("views", path_of("zombie_read.jsonl"))["views"]
         self.assertEqual(views[1], {"transaction": "t1", "operations": 2, "after": None})
+        self.assertEqual(self.fields("opaque", path_of("boosted.jsonl"))["verdict"], "opaque")
+        zombie = self.fields("opaque", path_of("zombie_read.jsonl"), status=1)
+        self.assertEqual([zombie[name] for name in ("verdict", "step", "line", "transaction", "from", "to")], ["zombie", 10, 8, "t1", 0, 1])
+        self.assertEqual(zombie["operations"][1], {"id": 4, "operation": "y.read(0)=1"})
         self.assertEqual(len(self.fields("swaps", path_of("accepted.jsonl"))["printed"]), 5)
         self.assertEqual(len(self.fields("expand", path_of("rejected_race.jsonl"), status=1)["printed"]), 7)
         self.assertEqual(self.fields("quick", path_of("boosted.jsonl"))["records"], 11)

@@ -43,20 +43,23 @@ QUICK_ACCEPTED = re.compile(r"quick accepted records (?P<records>\d+) committed 
 REJECTED = re.compile(r"rejected step (?P<step>\d+) line (?P<line>\d+) (?P<rule>[A-Z]+) (?P<criterion>\d+)")
 QUICK_REJECTED = re.compile(r"quick rejected line (?P<line>\d+)")
 FAULT = re.compile(r"fault line (?P<line>\d+) (?P<cause>[A-Za-z]+(?:\([a-z]+\))?)")
+OPAQUE = re.compile(r"opaque steps (?P<steps>\d+) committed (?P<committed>\d+)")
+ZOMBIE = re.compile(r"zombie step (?P<step>\d+) line (?P<line>\d+)")
 HOLDS = re.compile(r"holds operations (?P<operations>\d+) swaps (?P<swaps>\d+) serial (?P<serial>\d+)")
 REFUSED = re.compile(r"refused line (?P<line>\d+) (?P<reason>.+)")
 TOO_LARGE = re.compile(r"toolarge (?P<what>\w+) (?P<number>\d+)")
 DRILL = re.compile(r"drill (?P<number>\d+)")
 VERDICT_LINES = (
     ("accepted", ACCEPTED), ("accepted", QUICK_ACCEPTED), ("rejected", REJECTED), ("rejected", QUICK_REJECTED),
-    ("fault", FAULT), ("holds", HOLDS), ("refused", REFUSED), ("toolarge", TOO_LARGE),
+    ("opaque", OPAQUE), ("zombie", ZOMBIE), ("fault", FAULT), ("holds", HOLDS), ("refused", REFUSED), ("toolarge", TOO_LARGE),
 )
 # The faults of `certify` by limits that `judge` does not have, or has only for a larger run.
 LIMITS_OF_CERTIFY = ("TooManySteps", "TooManyLines", "TooManyTransactions", "TooLong")
 # The faults of `judge` on an input that is no run of a style that it judges.
 NO_JUDGED_RUN = ("StyleNotJudged", "NoHeader")
 # The status that the program ends with, by its verdict.
-STATUSES = {"accepted": (0,), "rejected": (1,), "fault": (3,), "holds": (0,), "refused": (1,), "toolarge": (7,)}
+STATUSES = {"accepted": (0,), "rejected": (1,), "opaque": (0,), "zombie": (1,), "fault": (3,), "holds": (0,), "refused": (1,),
+            "toolarge": (7,)}
 # The statuses of the commands that print lines of JSON and no verdict.
 STATUSES_OF_LINES = {"expand": (0, 1), "swaps": (0,), "focus": (0,)}
 ENTRY = re.compile(r"entry (?P<entry>\d+)(?: gives (?P<gives>\S+))?")
@@ -114,7 +117,7 @@ class Report:
 
     `verdict_line` is the first line, or after `drill N` the second.
     `is_of_judge` says whether `judge` made it.
-    `verdict` is accepted, rejected, fault, holds, refused, toolarge, or None if that line is none of these.
+    `verdict` is accepted, rejected, opaque, zombie, fault, holds, refused, toolarge, or None if that line is none of these.
     `line`, `step`, `rule`, `criterion` and `cause` are None if that line does not have them.
     `fields` has all fields of that line, numbers as int.
     """

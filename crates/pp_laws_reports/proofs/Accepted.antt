@@ -1,4 +1,4 @@
--- Every accepted run has views and exchanges, so `views` and `swaps` have an output for every input.
+-- Every accepted run has views and exchanges, and is opaque or has a first zombie. So `views`, `swaps` and `opaque` have an output for every input.
 use Rattle.std.specs.Prelude.{◌≡◌, ◌+◌, ℕ, zero, suc, List, [], ◌∷◌, length, map, Option, None, Some}
 use Rattle.std.proofs.Common.{refl, subst, arith}
 use Rattle.std.proofs.lemmas.Bool.{cases_lt}
@@ -13,6 +13,8 @@ use Rattle.pp_attempts.specs.Peaks.{operations, peaks}
 use Rattle.pp_attempts.specs.Views.{Explains, IsLeastBelow, IsViewBelow, Pairwise}
 use Rattle.pp_attempts.specs.declared.peak.Peak.{Peak}
 use Rattle.pp_attempts.specs.declared.view.View.{View}
+use Rattle.pp_cmd_opaque.proofs.Deciding.{some_scan_output}
+use Rattle.pp_cmd_opaque.specs.Outputs.{IsOpaqueOutput}
 use Rattle.pp_cmd_views.specs.Outputs.{IsViews}
 use Rattle.pp_cmd_views.specs.Texts.{too_large_text as too_large_views, views_text}
 use Rattle.pp_judge.specs.Accepted.{HasRun}
@@ -79,4 +81,11 @@ pub swaps_are_defined : (bytes : List ℕ) → IsDefined (IsSwaps bytes)
 swaps_are_defined bytes none =
     some_report bytes (λ report is. none statuses.InputFault report (statuses.InputFault, report, is, (refl, refl)))
     (λ run report is. accepted_swaps bytes run report is none)
+    (λ run report is. none statuses.Rejected report (statuses.Rejected, report, is, (refl, refl)))
+
+-- Every input has an output of `opaque`.
+pub opaque_is_defined : (bytes : List ℕ) → IsDefined (IsOpaqueOutput bytes)
+opaque_is_defined bytes none =
+    some_report bytes (λ report is. none statuses.InputFault report (statuses.InputFault, report, is, (refl, refl)))
+    (λ run report is. some_scan_output bytes report is run (λ status text output. none status text (statuses.Accepted, report, is, output)))
     (λ run report is. none statuses.Rejected report (statuses.Rejected, report, is, (refl, refl)))

@@ -6,7 +6,7 @@ use Rattle.pp_cmd_drill.proofs.Drilling.{prints_lines}
 use Rattle.pp_cmd_drill.specs.Prints.{drill_lines}
 use Rattle.pp_cmd_drill.specs.Reports.{IsDrilled}
 use Rattle.pp_cmd_recheck.proofs.Rechecking.{some_recheck}
-use Rattle.pp_laws_reports.proofs.Accepted.{swaps_are_defined, views_are_defined}
+use Rattle.pp_laws_reports.proofs.Accepted.{opaque_is_defined, swaps_are_defined, views_are_defined}
 use Rattle.pp_laws_reports.proofs.Certified.{certify_is_defined, expand_is_defined}
 use Rattle.pp_laws_reports.proofs.Decided.{quick_is_defined}
 use Rattle.pp_laws_reports.proofs.Judged.{judge_is_defined}
@@ -31,5 +31,6 @@ defined_laws =
       swaps = swaps_are_defined;
       recheck = recheck_is_defined;
       views = views_are_defined;
+      opaque = opaque_is_defined;
       drill = drill_is_defined;
     }

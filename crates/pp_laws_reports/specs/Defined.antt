@@ -4,6 +4,7 @@ use Rattle.pp_core.specs.declared.status.Status.{Status}
 use Rattle.pp_certificate_lines.specs.Rechecked.{IsRecheck}
 use Rattle.pp_judge.specs.Reports.{IsCertified, IsExpanded}
 use Rattle.pp_cmd_views.specs.Outputs.{IsViews}
+use Rattle.pp_cmd_opaque.specs.Outputs.{IsOpaqueOutput}
 use Rattle.pp_cmd_quick.specs.Decisions.{IsQuick}
 use Rattle.pp_cmd_judge.specs.Judgements.{IsJudgeOutput}
 use Rattle.pp_cmd_drill.specs.Reports.{IsDrilled}
@@ -23,4 +24,5 @@ pub record DefinedLaws : Type 0 where
   pub swaps : (bytes : List ℕ) → IsDefined (IsSwaps bytes)
   pub recheck : (bytes : List ℕ) → IsDefined (IsRecheck bytes)
   pub views : (bytes : List ℕ) → IsDefined (IsViews bytes)
+  pub opaque : (bytes : List ℕ) → IsDefined (IsOpaqueOutput bytes)
   pub drill : (n : ℕ) → 1 ≤ n → n ≤ 20_000 → IsDefined (IsDrilled n)

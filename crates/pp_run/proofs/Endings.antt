@@ -14,8 +14,9 @@ use Rattle.pp_judge.specs.Rejected.{IsEvident}
 use Rattle.pp_cmd_judge.specs.Inputs.{judge_scan}
 use Rattle.pp_cmd_judge.specs.Judgements.{IsJudgedEvident}
 use Rattle.pp_cmd_drill.specs.Prints.{PrintsLines}
+use Rattle.pp_cmd_opaque.specs.Meanings.{MeetsAll}
 use Rattle.pp_run.specs.declared.words.Command.{Command}
-use Rattle.pp_run.specs.declared.words.Command.TheVariants.{Certify, Drill, Expand, Focus, Judge, Quick, Recheck, Swaps, Views}
+use Rattle.pp_run.specs.declared.words.Command.TheVariants.{Certify, Drill, Expand, Focus, Judge, Opaque, Quick, Recheck, Swaps, Views}
 use Rattle.pp_run.specs.Bounds.{RisesAtLeast, RisesAtMost}
 use Rattle.pp_run.specs.Outcomes.{outcome}
 use Rattle.pp_run.specs.Outputs.{IsOfWhole, IsOutput, IsPrinted, MayBeCutShort, IsVerdictOrSize, OfInput}
@@ -56,6 +57,7 @@ whole_verdict (Some Quick) s whole = inl whole
 whole_verdict (Some Swaps) s whole = whole
 whole_verdict (Some Recheck) s whole = inl (subst IsDecided (sym whole) tt)
 whole_verdict (Some Views) s whole = whole
+whole_verdict (Some Opaque) s whole = inl whole
 whole_verdict (Some (Drill n)) s whole = absurd whole
 whole_verdict (Some (Focus name)) s whole = inl (subst IsDecided (sym whole) tt)
 
@@ -83,6 +85,7 @@ of_all (Some Quick) left P f = λ bytes is. f bytes
 of_all (Some Swaps) left P f = λ bytes is. f bytes
 of_all (Some Recheck) left P f = λ bytes is. f bytes
 of_all (Some Views) left P f = λ bytes is. f bytes
+of_all (Some Opaque) left P f = λ bytes is. f bytes
 of_all (Some (Drill n)) left P f = f []
 of_all (Some (Focus name)) left P f = λ bytes is. f bytes
 
@@ -106,6 +109,7 @@ pub record Reports (k : Command) (input rest : Option (List ℕ)) (before after 
   pub size : s ≡ statuses.TooLarge → TellsSize (Some k)
   pub whole : IsOfWhole (Some k) s → IsAtEnd rest
   pub shown : DrivesMachine (Some k) → s ≡ statuses.Rejected → WhereTold input (λ bytes. IsEvident (scan bytes))
+  pub opaque : k ≡ Opaque → s ≡ statuses.Rejected → WhereTold input (λ bytes. IsEvident (scan bytes) ⊎ MeetsAll bytes)
   pub judged : k ≡ Judge → s ≡ statuses.Rejected → WhereTold input (λ bytes. IsJudgedEvident (judge_scan bytes))
   pub checked : k ≡ Recheck → s ≡ statuses.Accepted → WhereTold input (λ bytes. IsCheckedSound bytes)
   pub least : RisesAtLeast (Some k) input s before after
@@ -175,6 +179,7 @@ module _ (SameSource SameSink : Type 0) (input rest held holds : Option (List �
             output = λ printed. prints (Some k) k refl input held holds s text r.output written;
             only = λ printed. prints_only (Some k) k refl input held holds s text r.output written;
             shown = r.shown;
+            opaque = λ opaque. r.opaque (cc);
             judged = λ judge. r.judged (cc);
             checked = λ recheck. r.checked (cc);
             most = p.most;
@@ -219,6 +224,7 @@ module _ (SameSource SameSink : Type 0) (input rest held holds : Option (List �
             output = λ printed. absurd (none printed);
             only = λ printed. absurd (none printed);
             shown = λ drives e. absurd (none (subst IsPrinted (sym e) tt));
+            opaque = λ opaque e. absurd (none (subst IsPrinted (sym e) tt));
             judged = λ judge e. absurd (none (subst IsPrinted (sym e) tt));
             checked = λ recheck e. absurd (none (subst IsPrinted (sym e) tt));
             most = p.most;

@@ -4,11 +4,12 @@ use Rattle.std.specs.Io.KnownBytes.{Appends}
 use Rattle.std.proofs.Common.{sym, ◌∙◌, subst}
 use Rattle.pp_core.specs.declared.status.Status.{Status}
 use Rattle.pp_run.specs.declared.words.Command.{Command}
-use Rattle.pp_run.specs.declared.words.Command.TheVariants.{Certify, Drill, Expand, Focus, Judge, Quick, Recheck, Swaps, Views}
+use Rattle.pp_run.specs.declared.words.Command.TheVariants.{Certify, Drill, Expand, Focus, Judge, Opaque, Quick, Recheck, Swaps, Views}
 use Rattle.pp_run.specs.Outputs.{IsOutput, OfInput, Prints, PrintsOnly, PrintsPrefix, PrintsPrefixOnly}
 use Rattle.pp_run.specs.Writing.{AppendsPrefix}
 use Rattle.pp_judge.proofs.Concluding.{one_certified}
 use Rattle.pp_cmd_expand.proofs.Expanding.{one_expanded}
+use Rattle.pp_cmd_opaque.proofs.Deciding.{one_opaque_output}
 use Rattle.pp_cmd_views.proofs.Viewed.{one_views}
 use Rattle.pp_cmd_quick.proofs.Decided.{one_quick}
 use Rattle.pp_cmd_judge.proofs.Judged.{one_judged}
@@ -27,6 +28,7 @@ one_output (Some Quick) bytes s s' t t' a b = one_quick bytes s s' t t' a b
 one_output (Some Swaps) bytes s s' t t' a b = one_swaps bytes s s' t t' a b
 one_output (Some Recheck) bytes s s' t t' a b = one_recheck bytes s s' t t' a b
 one_output (Some Views) bytes s s' t t' a b = one_views bytes s s' t t' a b
+one_output (Some Opaque) bytes s s' t t' a b = one_opaque_output bytes s s' t t' a b
 one_output (Some (Drill n)) bytes s s' t t' a b = one_drilled n s s' t t' a b
 one_output (Some (Focus name)) bytes s s' t t' a b = one_focused name bytes s s' t t' a b
 
@@ -40,6 +42,7 @@ of_input (Some Quick) left P Q f p = λ bytes is. f bytes (p bytes is)
 of_input (Some Swaps) left P Q f p = λ bytes is. f bytes (p bytes is)
 of_input (Some Recheck) left P Q f p = λ bytes is. f bytes (p bytes is)
 of_input (Some Views) left P Q f p = λ bytes is. f bytes (p bytes is)
+of_input (Some Opaque) left P Q f p = λ bytes is. f bytes (p bytes is)
 of_input (Some (Drill n)) left P Q f p = f [] p
 of_input (Some (Focus name)) left P Q f p = λ bytes is. f bytes (p bytes is)
 

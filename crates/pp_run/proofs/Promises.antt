@@ -43,7 +43,7 @@ use Rattle.pp_run.specs.Promises.{HaveOneRun, IsDecidedAsRun, SeesKept}
 use Rattle.pp_run.specs.Runs.{RunLaws}
 use Rattle.pp_run.specs.Words.{command_of}
 use Rattle.pp_run.specs.declared.words.Command.{Command}
-use Rattle.pp_run.specs.declared.words.Command.TheVariants.{Certify, Drill, Expand, Focus, Judge, Quick, Recheck, Swaps, Views}
+use Rattle.pp_run.specs.declared.words.Command.TheVariants.{Certify, Drill, Expand, Focus, Judge, Opaque, Quick, Recheck, Swaps, Views}
 use Rattle.std.proofs.Common.{refl, subst}
 
 -- the records after any header have one run, and steps have one verdict
@@ -119,6 +119,7 @@ output_of words bytes (Some Quick) is = defined_laws.quick bytes
 output_of words bytes (Some Swaps) is = defined_laws.swaps bytes
 output_of words bytes (Some Recheck) is = defined_laws.recheck bytes
 output_of words bytes (Some Views) is = defined_laws.views bytes
+output_of words bytes (Some Opaque) is = defined_laws.opaque bytes
 output_of words bytes (Some (Drill n)) is =
     let within = drill_within words n is in
     defined_laws.drill n within.0 within.1

@@ -1,5 +1,5 @@
 -- The promise of each command, from what is printed, and how far the counter rises.
-use Rattle.std.proofs.Common.{◌≡◌, ℕ, List, Option, None, Some, inl, inr, refl, subst, sym}
+use Rattle.std.proofs.Common.{◌≡◌, ◌⊎◌, ℕ, List, Option, None, Some, inl, inr, refl, subst, sym}
 use Rattle.std.specs.Io.KnownBytes.{Appends}
 use Rattle.pp_core.specs.declared.status.Status.{Status}
 use Rattle.pp_core.specs.declared.status.Status.TheVariants as statuses
@@ -19,6 +19,9 @@ use Rattle.pp_cmd_judge.proofs.Judged.{judged_exact, same_judged}
 use Rattle.pp_cmd_judge.specs.Inputs.{judge_limits, judge_scan}
 use Rattle.pp_cmd_judge.specs.Judgements.{IsJudgeOutput, IsJudgedEvident}
 use Rattle.pp_cmd_focus.specs.Outputs.{IsFocused}
+use Rattle.pp_cmd_opaque.proofs.Deciding.{accepted_opaque, accepted_ordered, boosted_run_opaque, opaque_exactly, rejected_zombie}
+use Rattle.pp_cmd_opaque.specs.Meanings.{IsBoostedOpaque, MeetsAll}
+use Rattle.pp_cmd_opaque.specs.Outputs.{IsOpaqueOutput}
 use Rattle.pp_cmd_drill.specs.Prints.{PrintsLines, certified_text}
 use Rattle.pp_cmd_drill.specs.Text.{drill_text}
 use Rattle.pp_cmd_swaps.proofs.Rechecking.{prints_certificate}
@@ -28,17 +31,19 @@ use Rattle.pp_format_read.specs.declared.header.Header.{Header}
 use Rattle.pp_input.specs.Limits.{usual_limits}
 use Rattle.pp_input.specs.declared.limits.Limits.{Limits}
 use Rattle.pp_input_reader.specs.declared.cause.Cause.{Cause}
+use Rattle.pp_laws_runs.proofs.ScannedRecords.{scan_styled}
 use Rattle.pp_laws_runs.proofs.Timely.{meets_timely}
 use Rattle.pp_run.proofs.Focused.{focused_exactly, focused_text}
 use Rattle.pp_run.proofs.Promises.{accepted_how, sees_kept}
 use Rattle.pp_run.specs.Bounds.{RisesAtLeast, RisesAtMost}
 use Rattle.pp_run.specs.Commands.{CommandPromise, IsSerializable}
 use Rattle.pp_run.specs.Outcomes.{Outcome}
+use Rattle.pp_run.specs.Promises.{PrintsZombie}
 use Rattle.pp_run.specs.Outputs.{IsPrinted, OfInput, Prints, PrintsOnly}
 use Rattle.pp_run.specs.Words.{DrivesMachine}
 use Rattle.pp_run.specs.declared.words.Command.{Command}
 use Rattle.pp_run.specs.declared.words.Command.TheVariants.{Certify, Drill, Expand, Focus, Judge}
-use Rattle.pp_run.specs.declared.words.Command.TheVariants.{Quick, Recheck, Swaps, Views}
+use Rattle.pp_run.specs.declared.words.Command.TheVariants.{Opaque, Quick, Recheck, Swaps, Views}
 use Rattle.pp_input_reader.specs.Sources.{WhereTold}
 
 -- what is printed, how far the counter rises, and the lines of `drill`
@@ -46,6 +51,7 @@ pub record Answers (k : Option Command) (o : Outcome) : Type 0 where
   pub output : IsPrinted o.status → OfInput k o.input (λ bytes. Prints k bytes o.status o.held o.holds)
   pub only : IsPrinted o.status → OfInput k o.input (λ bytes. PrintsOnly k bytes o.status o.held o.holds)
   pub shown : DrivesMachine k → o.status ≡ statuses.Rejected → WhereTold o.input (λ bytes. IsEvident (scan bytes))
+  pub opaque : k ≡ Some Opaque → o.status ≡ statuses.Rejected → WhereTold o.input (λ bytes. IsEvident (scan bytes) ⊎ MeetsAll bytes)
   pub judged : k ≡ Some Judge → o.status ≡ statuses.Rejected → WhereTold o.input (λ bytes. IsJudgedEvident (judge_scan bytes))
   pub checked : k ≡ Some Recheck → o.status ≡ statuses.Accepted → WhereTold o.input (λ bytes. IsCheckedSound bytes)
   pub most : RisesAtMost k o.input o.before o.after
@@ -110,6 +116,16 @@ quick_meets bytes text (decision, is, told) = accepted_behind (quick_fault (scan
 -- if `judge` accepts an input, its start and steps meet their criteria
 judged_meets : (bytes text : List ℕ) → IsJudgeOutput bytes statuses.Accepted text → EachStepMeets (judge_scan bytes)
 judged_meets bytes text r = ((judged_exact bytes statuses.Accepted text r).0 refl).1
+
+-- at rejected, `opaque` shows evidence, or it prints the first zombie
+evident_or_zombie : (bytes text : List ℕ) (held holds : Option (List ℕ)) → IsOpaqueOutput bytes statuses.Rejected text → Appends held holds text → IsEvident (scan bytes) ⊎ MeetsAll bytes
+    → IsEvident (scan bytes) ⊎ (MeetsAll bytes × PrintsZombie bytes held holds)
+evident_or_zombie bytes text held holds out written (inl evident) = inl evident
+evident_or_zombie bytes text held holds out written (inr all) = inr (all, (text, rejected_zombie bytes text out all, written))
+
+-- accepted runs of style boosted are opaque
+boosted_opaque : (bytes : List ℕ) → IsBoostedOpaque (scan bytes)
+boosted_opaque bytes = boosted_run_opaque (scan bytes) (λ m r i. scan_styled usual_limits bytes m.header m.first_line r i)
 
 -- ---- the promises
 
@@ -211,6 +227,23 @@ promised (Some Views) o a =
       seen = λ e bytes is.
           let out = a.output (printed o statuses.Accepted e tt) bytes is in
           sees_kept bytes out.0 (subst (λ (s : Status). IsViews bytes s out.0) e out.1);
+      most = a.most;
+      least = a.least;
+    }
+promised (Some Opaque) o a =
+    record {
+      prints = λ p bytes is. record { output = a.output p bytes is; only = a.only p bytes is };
+      exact = λ p bytes is. let out = a.output p bytes is in opaque_exactly bytes o.status out.0 out.1;
+      accepted = λ e bytes is.
+          let out = a.output (printed o statuses.Accepted e tt) bytes is in
+          serializable usual_limits bytes (accepted_opaque bytes out.0 (subst (λ (s : Status). IsOpaqueOutput bytes s out.0) e out.1)).0.1;
+      ordered = λ e bytes is.
+          let out = a.output (printed o statuses.Accepted e tt) bytes is in
+          accepted_ordered bytes out.0 (subst (λ (s : Status). IsOpaqueOutput bytes s out.0) e out.1);
+      rejected = λ e bytes is.
+          let out = a.output (printed o statuses.Rejected e tt) bytes is in
+          evident_or_zombie bytes out.0 o.held o.holds (subst (λ (s : Status). IsOpaqueOutput bytes s out.0) e out.1) out.2 (a.opaque refl e bytes is);
+      boosted = λ bytes is. boosted_opaque bytes;
       most = a.most;
       least = a.least;
     }

@@ -9,6 +9,7 @@ use Rattle.pp_judge.specs.Certified.{IsDecided}
 use Rattle.pp_judge.specs.Costs.{CostsAtLeast, CostsAtMost, StepsCostAtLeast, StepsCostAtMost}
 use Rattle.pp_judge.specs.Inputs.{scan}
 use Rattle.pp_cmd_views.specs.Costs.{ViewsCostAtMost}
+use Rattle.pp_cmd_opaque.specs.Bounds.{OpaqueCostsAtMost}
 use Rattle.pp_cmd_quick.specs.Costs.{QuickCostsAtLeast, QuickCostsAtMost}
 use Rattle.pp_cmd_judge.specs.Costs.{JudgeCostsAtLeast, JudgeCostsAtMost}
 use Rattle.pp_cmd_judge.specs.Inputs.{judge_scan}
@@ -16,7 +17,7 @@ use Rattle.pp_cmd_drill.specs.Reports.{drill_scan}
 use Rattle.pp_cmd_recheck.specs.Costs.{CheckCostsAtLeast, CheckCostsAtMost}
 use Rattle.pp_run.specs.declared.words.Command.{Command}
 use Rattle.pp_run.specs.declared.words.Command.TheVariants.{Certify, Drill, Expand, Focus, Judge}
-use Rattle.pp_run.specs.declared.words.Command.TheVariants.{Quick, Recheck, Swaps, Views}
+use Rattle.pp_run.specs.declared.words.Command.TheVariants.{Opaque, Quick, Recheck, Swaps, Views}
 
 -- The greatest rise of the counter, from old to new, at every status. `certify` and `drill` rise at
 -- most by the greatest cost of the start, the steps and the serial run. The other commands have
@@ -36,6 +37,8 @@ RisesAtMost (Some Swaps) left old new =
 RisesAtMost (Some Recheck) left old new = WhereTold left λ bytes. CheckCostsAtMost bytes old new
 RisesAtMost (Some Views) left old new =
     WhereTold left λ bytes. ViewsCostAtMost (scan bytes) old new
+RisesAtMost (Some Opaque) left old new =
+    WhereTold left λ bytes. OpaqueCostsAtMost (scan bytes) old new
 RisesAtMost (Some (Drill n)) left old new = CostsAtMost (drill_scan n) old new
 RisesAtMost (Some (Focus name)) left old new = WhereTold left λ bytes. new ≡ old
 
@@ -59,6 +62,8 @@ RisesAtLeast (Some Swaps) left status old new = IsDecided status →
 RisesAtLeast (Some Recheck) left status old new = status ≡ statuses.Accepted →
     WhereTold left λ bytes. CheckCostsAtLeast bytes old new
 RisesAtLeast (Some Views) left status old new = IsDecided status →
+    WhereTold left λ bytes. StepsCostAtLeast status (scan bytes) old new
+RisesAtLeast (Some Opaque) left status old new = IsDecided status →
     WhereTold left λ bytes. StepsCostAtLeast status (scan bytes) old new
 RisesAtLeast (Some (Drill n)) left status old new = status ≡ statuses.Accepted →
     CostsAtLeast statuses.Accepted (drill_scan n) old new

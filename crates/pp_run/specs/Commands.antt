@@ -1,5 +1,5 @@
 -- Meaning: what each command promises. Each field is one promise.
-use Rattle.std.specs.Prelude.{◌≡◌, ℕ, List, [], Option, None, Some}
+use Rattle.std.specs.Prelude.{◌≡◌, ◌⊎◌, ℕ, List, [], Option, None, Some}
 use Rattle.std.specs.Io.KnownBytes.{Appends}
 use Rattle.pp_core.specs.declared.status.Status.TheVariants as statuses
 use Rattle.pp_certificate_lines.specs.Rechecked.{IsCheckedSound, IsRecheck}
@@ -13,6 +13,9 @@ use Rattle.pp_judge.specs.Restated.{PrintsAgain}
 use Rattle.pp_judge.specs.Scans.{InputScan}
 use Rattle.pp_cmd_views.specs.Costs.{ViewsCostAtMost}
 use Rattle.pp_cmd_views.specs.Outputs.{IsViews}
+use Rattle.pp_cmd_opaque.specs.Bounds.{OpaqueCostsAtMost}
+use Rattle.pp_cmd_opaque.specs.Meanings.{HasOrderedRun, IsBoostedOpaque, IsOpaqueExactly, MeetsAll}
+use Rattle.pp_cmd_opaque.specs.Outputs.{IsOpaqueOutput}
 use Rattle.pp_cmd_quick.specs.Costs.{QuickCostsAtLeast, QuickCostsAtMost}
 use Rattle.pp_cmd_quick.specs.Decisions.{IsQuick}
 use Rattle.pp_cmd_judge.specs.Costs.{JudgeCostsAtLeast, JudgeCostsAtMost}
@@ -31,10 +34,10 @@ use Rattle.pp_laws_runs.specs.Timely.{IsTimely}
 use Rattle.pp_cmd_recheck.specs.Costs.{CheckCostsAtLeast, CheckCostsAtMost}
 use Rattle.pp_run.specs.declared.words.Command.{Command}
 use Rattle.pp_run.specs.declared.words.Command.TheVariants.{Certify, Drill, Expand, Focus, Judge}
-use Rattle.pp_run.specs.declared.words.Command.TheVariants.{Quick, Recheck, Swaps, Views}
+use Rattle.pp_run.specs.declared.words.Command.TheVariants.{Opaque, Quick, Recheck, Swaps, Views}
 use Rattle.pp_run.specs.Outcomes.{IsTheOutput, OfItsInput, Outcome, PrintsJust}
 use Rattle.pp_run.specs.Outputs.{IsPrinted}
-use Rattle.pp_run.specs.Promises.{IsFocusedExactly, SeesKept}
+use Rattle.pp_run.specs.Promises.{IsFocusedExactly, PrintsZombie, SeesKept}
 
 -- What is true of the scan of an input if its start and each of its steps meet their criteria,
 -- however many steps there are.
@@ -149,6 +152,32 @@ pub record ViewsPromise (o : Outcome) : Type 0 where
   pub least : IsDecided o.status → OfItsInput o λ bytes.
       StepsCostAtLeast o.status (scan bytes) o.before o.after
 
+-- What `opaque` promises. Its limits are those of `certify`.
+pub record OpaquePromise (o : Outcome) : Type 0 where
+  pub prints : PrintsJust IsOpaqueOutput o
+  -- Accepted is printed exactly if the input has no fault, its start and each of its steps meet
+  -- their criteria, and the run is opaque.
+  pub exact : IsPrinted o.status → OfItsInput o λ bytes. IsOpaqueExactly bytes o.status
+  pub accepted : o.status ≡ statuses.Accepted → OfItsInput o λ bytes. IsSerializable (scan bytes)
+  -- At accepted, one sequence of all transactions and attempts explains what they saw, for each
+  -- prefix of the run. It has the committed transactions in commit order and respects real time.
+  pub ordered : o.status ≡ statuses.Accepted → OfItsInput o λ bytes. HasOrderedRun (scan bytes)
+  -- At rejected, the run is rejected with evidence, or it is accepted and not opaque. In the second
+  -- case the text is that of the first zombie: the step and its line, the own list of a transaction
+  -- after the step, and a window. No number of commits in the window explains the list, and each
+  -- shorter prefix of the run is opaque.
+  pub rejected : o.status ≡ statuses.Rejected → OfItsInput o λ bytes.
+      IsEvident (scan bytes) ⊎ (MeetsAll bytes × PrintsZombie bytes o.held o.holds)
+  -- If the start and each step meet their criteria in style boosted, the run is opaque. So `opaque`
+  -- accepts each run of style boosted that `certify` accepts.
+  pub boosted : OfItsInput o λ bytes. IsBoostedOpaque (scan bytes)
+  -- The counter rises at most by what the start and the steps cost, and by the search: one for each
+  -- committed operation, and for each APP what its question costs. A question costs twice its own
+  -- list for each number in its window, and twice the operations that committed in the window.
+  pub most : OfItsInput o λ bytes. OpaqueCostsAtMost (scan bytes) o.before o.after
+  pub least : IsDecided o.status → OfItsInput o λ bytes.
+      StepsCostAtLeast o.status (scan bytes) o.before o.after
+
 -- `drill` reads no input, so its output depends on its number alone.
 pub record DrillPromise (n : ℕ) (o : Outcome) : Type 0 where
   pub prints : IsPrinted o.status → IsTheOutput (λ bytes. IsDrilled n) [] o
@@ -184,5 +213,6 @@ CommandPromise (Some Quick) o = QuickPromise o
 CommandPromise (Some Swaps) o = SwapsPromise o
 CommandPromise (Some Recheck) o = RecheckPromise o
 CommandPromise (Some Views) o = ViewsPromise o
+CommandPromise (Some Opaque) o = OpaquePromise o
 CommandPromise (Some (Drill n)) o = DrillPromise n o
 CommandPromise (Some (Focus name)) o = FocusPromise name o

@@ -9,6 +9,7 @@ use Rattle.pp_judge.specs.Certified.{IsDecided}
 use Rattle.pp_judge.specs.Inputs.{ReadsNoFault}
 use Rattle.pp_judge.specs.Reports.{IsCertified, IsExpanded}
 use Rattle.pp_cmd_views.specs.Outputs.{IsViews}
+use Rattle.pp_cmd_opaque.specs.Outputs.{IsOpaqueOutput}
 use Rattle.pp_cmd_quick.specs.Decisions.{IsQuick, QuickReadsNoFault}
 use Rattle.pp_cmd_judge.specs.Judgements.{IsJudgeOutput, JudgeReadsNoFault}
 use Rattle.pp_laws_reports.specs.Defined.{IsDefined}
@@ -17,7 +18,7 @@ use Rattle.pp_cmd_focus.specs.Outputs.{FocusReadsNoFault, IsFocused}
 use Rattle.pp_cmd_swaps.specs.Swaps.{IsSwaps}
 use Rattle.pp_run.specs.declared.words.Command.{Command}
 use Rattle.pp_run.specs.declared.words.Command.TheVariants.{Certify, Drill, Expand, Focus, Judge}
-use Rattle.pp_run.specs.declared.words.Command.TheVariants.{Quick, Recheck, Swaps, Views}
+use Rattle.pp_run.specs.declared.words.Command.TheVariants.{Opaque, Quick, Recheck, Swaps, Views}
 use Rattle.pp_run.specs.Words.{command_of}
 use Rattle.pp_run.specs.Writing.{AppendsPrefix}
 
@@ -32,6 +33,7 @@ OfInput (Some Quick) left P = WhereTold left P
 OfInput (Some Swaps) left P = WhereTold left P
 OfInput (Some Recheck) left P = WhereTold left P
 OfInput (Some Views) left P = WhereTold left P
+OfInput (Some Opaque) left P = WhereTold left P
 OfInput (Some (Drill n)) left P = P []
 OfInput (Some (Focus name)) left P = WhereTold left P
 
@@ -45,6 +47,7 @@ IsOutput (Some Quick) bytes status text = IsQuick bytes status text
 IsOutput (Some Swaps) bytes status text = IsSwaps bytes status text
 IsOutput (Some Recheck) bytes status text = IsRecheck bytes status text
 IsOutput (Some Views) bytes status text = IsViews bytes status text
+IsOutput (Some Opaque) bytes status text = IsOpaqueOutput bytes status text
 IsOutput (Some (Drill n)) bytes status text = IsDrilled n status text
 IsOutput (Some (Focus name)) bytes status text = IsFocused name bytes status text
 
@@ -70,6 +73,7 @@ IsOfWhole (Some Quick) status = IsDecided status
 IsOfWhole (Some Swaps) status = IsVerdictOrSize status
 IsOfWhole (Some Recheck) status = status ≡ statuses.Accepted
 IsOfWhole (Some Views) status = IsVerdictOrSize status
+IsOfWhole (Some Opaque) status = IsDecided status
 IsOfWhole (Some (Drill n)) status = ⊥
 IsOfWhole (Some (Focus name)) status = status ≡ statuses.Accepted
 
@@ -84,6 +88,7 @@ ReadsSound (Some Quick) old new = QuickReadsNoFault old new
 ReadsSound (Some Swaps) old new = ReadsNoFault old new
 ReadsSound (Some Recheck) old new = RecheckReadsNoFault old new
 ReadsSound (Some Views) old new = ReadsNoFault old new
+ReadsSound (Some Opaque) old new = ReadsNoFault old new
 ReadsSound (Some (Drill n)) old new = ⊥
 ReadsSound (Some (Focus name)) old new = FocusReadsNoFault old new
 

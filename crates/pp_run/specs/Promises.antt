@@ -1,5 +1,6 @@
 -- Meaning: what is promised of the results of commands, besides their outputs.
 use Rattle.std.specs.Prelude.{◌≡◌, ◌↔◌, ℕ, List, Option, None}
+use Rattle.std.specs.Io.KnownBytes.{Appends}
 use Rattle.pp_core.specs.declared.status.Status.{Status}
 use Rattle.pp_core.specs.declared.status.Status.TheVariants as statuses
 use Rattle.pp_core.specs.declared.call.Style.TheVariants.{Boosted}
@@ -16,11 +17,13 @@ use Rattle.pp_objects.specs.declared.act.Op.{Op}
 use Rattle.pp_summary.specs.Laws.{BriefsDecide, IsBriefed, KeepsBoosted}
 use Rattle.pp_attempts.specs.Laws.{SeesKeptPeaks}
 use Rattle.pp_judge.specs.Accepted.{HasRun}
+use Rattle.pp_judge.specs.Inputs.{scan}
 use Rattle.pp_judge.specs.Objects.{object_of, setting_of, start_of, translation_of}
 use Rattle.pp_judge.specs.Reports.{RunReport}
 use Rattle.pp_judge.specs.Scans.{InputScan}
 use Rattle.pp_cmd_focus.specs.Outputs.{IsFocusStatus, focus_fault}
 use Rattle.pp_cmd_judge.specs.Inputs.{judge_scan}
+use Rattle.pp_cmd_opaque.specs.Meanings.{IsFirstZombie}
 use Rattle.pp_cmd_quick.specs.Costs.{AreTriedBehind}
 use Rattle.pp_cmd_quick.specs.Decisions.{Decision, IsDecision, IsDecisionOf, IsVerdictBehind}
 use Rattle.pp_cmd_quick.specs.Laws.{IsSameDecision, TellsVerdict}
@@ -70,6 +73,11 @@ pub record IsDecidedAsRun (sc : InputScan) (header : Lined Header) : Type 0 wher
 abbrev pub SeesKept : InputScan → Type 0
 SeesKept sc = (r : HasRun sc) →
     SeesKeptPeaks (object_of r.header.what) (start_of r.header.what) (bare r.run)
+
+-- The known bytes grow by the text of the first zombie of the input's run.
+abbrev pub PrintsZombie : List ℕ → Option (List ℕ) → Option (List ℕ) → Type 0
+PrintsZombie bytes old new =
+    (text : List ℕ) × IsFirstZombie (scan bytes) text × Appends old new text
 
 -- The status is accepted exactly if the input has no fault, and its header has an object of this
 -- name. Otherwise it is that of a fault.

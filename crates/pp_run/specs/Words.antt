@@ -7,7 +7,7 @@ use Rattle.std.specs.Str.Parse.{digits_value}
 use Rattle.pp_format_read.specs.Members.{name_from}
 use Rattle.pp_run.specs.declared.words.Command.{Command}
 use Rattle.pp_run.specs.declared.words.Command.TheVariants.{Certify, Drill, Expand, Focus, Judge}
-use Rattle.pp_run.specs.declared.words.Command.TheVariants.{Quick, Recheck, Swaps, Views}
+use Rattle.pp_run.specs.declared.words.Command.TheVariants.{Opaque, Quick, Recheck, Swaps, Views}
 
 -- the command of one argument
 abbrev pub command_named : List ℕ → Option Command
@@ -18,7 +18,8 @@ command_named word =
     else if bytes_eq word (codes "quick") then Some Quick
     else if bytes_eq word (codes "swaps") then Some Swaps
     else if bytes_eq word (codes "recheck") then Some Recheck
-    else if bytes_eq word (codes "views") then Some Views else None
+    else if bytes_eq word (codes "views") then Some Views
+    else if bytes_eq word (codes "opaque") then Some Opaque else None
 
 -- the number of transactions that an argument states: 1 to 20,000, written in decimal digits
 abbrev pub drill_number : List ℕ → Option ℕ
@@ -55,11 +56,13 @@ Reads (Some Quick) = Unit {0}
 Reads (Some Swaps) = Unit {0}
 Reads (Some Recheck) = Unit {0}
 Reads (Some Views) = Unit {0}
+Reads (Some Opaque) = Unit {0}
 Reads (Some (Drill n)) = ⊥
 Reads (Some (Focus name)) = Unit {0}
 
--- The command drives the machine through the run of its input. So a rejection has evidence, of the
--- start or of a step.
+-- The command drives the machine through the run of its input, and rejects nothing else. So a
+-- rejection has evidence, of the start or of a step. `opaque` also rejects accepted runs that are
+-- not opaque.
 abbrev pub DrivesMachine : Option Command → Type 0
 DrivesMachine None = ⊥
 DrivesMachine (Some Certify) = Unit {0}
@@ -69,6 +72,7 @@ DrivesMachine (Some Quick) = ⊥
 DrivesMachine (Some Swaps) = Unit {0}
 DrivesMachine (Some Recheck) = ⊥
 DrivesMachine (Some Views) = Unit {0}
+DrivesMachine (Some Opaque) = ⊥
 DrivesMachine (Some (Drill n)) = ⊥
 DrivesMachine (Some (Focus name)) = ⊥
 
@@ -82,5 +86,6 @@ TellsSize (Some Quick) = ⊥
 TellsSize (Some Swaps) = Unit {0}
 TellsSize (Some Recheck) = ⊥
 TellsSize (Some Views) = Unit {0}
+TellsSize (Some Opaque) = ⊥
 TellsSize (Some (Drill n)) = ⊥
 TellsSize (Some (Focus name)) = ⊥

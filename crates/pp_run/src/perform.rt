@@ -10,7 +10,8 @@ ghost use Rattle.pp_judge.specs.Inputs.{scan};
 ghost use Rattle.pp_judge.specs.Rejected.{IsEvident};
 ghost use Rattle.pp_cmd_judge.specs.Inputs.{judge_scan};
 ghost use Rattle.pp_cmd_judge.specs.Judgements.{IsJudgedEvident};
-ghost use Rattle.pp_run.specs.declared.words.Command.TheVariants.{Drill, Judge, Recheck};
+ghost use Rattle.pp_cmd_opaque.specs.Meanings.{MeetsAll};
+ghost use Rattle.pp_run.specs.declared.words.Command.TheVariants.{Drill, Judge, Opaque, Recheck};
 ghost use Rattle.pp_run.specs.Bounds.{RisesAtLeast, RisesAtMost};
 ghost use Rattle.pp_run.specs.Outputs.{IsOfWhole, IsOutput, IsVerdictOrSize, OfInput, ReadsSound};
 ghost use Rattle.pp_run.specs.Words.{DrivesMachine, Reads, TellsSize};
@@ -21,6 +22,7 @@ use pp_cmd_drill::drill;
 use pp_cmd_expand::expand;
 use pp_cmd_focus::focus;
 use pp_cmd_judge::judge;
+use pp_cmd_opaque::opaque;
 use pp_cmd_quick::quick;
 use pp_cmd_recheck::recheck;
 use pp_cmd_swaps::swaps;
@@ -47,6 +49,8 @@ pub(crate) fn perform<S: Source, L: Ledger>(
     ensures end { IfOk result (λ r. IsOfWhole (Some command) r.0 → IsAtEnd (S.left source.new)) }
     ensures shown { IfOk result (λ r. DrivesMachine (Some command) → r.0 ≡ statuses.Rejected →
         WhereTold (S.left source.old) λ bytes. IsEvident (scan bytes)) }
+    ensures opaque { IfOk result (λ r. command ≡ Opaque → r.0 ≡ statuses.Rejected →
+        WhereTold (S.left source.old) λ bytes. IsEvident (scan bytes) ⊎ MeetsAll bytes) }
     ensures judged { IfOk result (λ r. command ≡ Judge → r.0 ≡ statuses.Rejected →
         WhereTold (S.left source.old) λ bytes. IsJudgedEvident (judge_scan bytes)) }
     ensures checked { IfOk result (λ r. command ≡ Recheck → r.0 ≡ statuses.Accepted →
@@ -70,6 +74,7 @@ pub(crate) fn perform<S: Source, L: Ledger>(
         Command::Swaps => swaps(alloc, source, ticks),
         Command::Recheck => recheck(alloc, source, ticks),
         Command::Views => views(alloc, source, ticks),
+        Command::Opaque => opaque(alloc, source, ticks),
         Command::Drill { n } => {
             let report = drill(alloc, n, ticks)?;
             Ok(report)

@@ -24,6 +24,8 @@ pub(crate) enum Command {
     Recheck,
     /// Print what each attempt of the run saw.
     Views,
+    /// Report whether each attempt of the run saw a consistent state.
+    Opaque,
     /// Make the run of n transactions, and print its report.
     Drill { n: u32 },
     /// Print the restriction of the input to the object of this name.
@@ -69,6 +71,8 @@ fn command_named(word: &[u8]) -> Option<Command>
         Some(Command::Recheck)
     } else if word == b"views".as_slice() {
         Some(Command::Views)
+    } else if word == b"opaque".as_slice() {
+        Some(Command::Opaque)
     } else {
         None
     }

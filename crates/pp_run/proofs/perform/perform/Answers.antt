@@ -46,6 +46,11 @@ returns-in-Views-clause-output g c =
     let left = g.S.Source.left c.args.source.now in
     IfOk-weaker c.views.result _ _ (λ r here. subst (λ (k : Command). OfInput (Some k) left (λ bytes. IsOutput (Some k) bytes r.0 r.1)) (sym c.in-Views.is) here) c.views.ensures.output
 
+pub returns-in-Opaque-clause-output : goal.returns-in-Opaque-clause-output
+returns-in-Opaque-clause-output g c =
+    let left = g.S.Source.left c.args.source.now in
+    IfOk-weaker c.opaque.result _ _ (λ r here. subst (λ (k : Command). OfInput (Some k) left (λ bytes. IsOutput (Some k) bytes r.0 r.1)) (sym c.in-Opaque.is) here) c.opaque.ensures.output
+
 pub returns-in-Focus-clause-output : goal.returns-in-Focus-clause-output
 returns-in-Focus-clause-output g c =
     let left = g.S.Source.left c.args.source.now in
@@ -73,6 +78,9 @@ returns-in-Recheck-clause-status g c = IfOk-weaker c.recheck.result _ _ (λ r. c
 
 pub returns-in-Views-clause-status : goal.returns-in-Views-clause-status
 returns-in-Views-clause-status g c = IfOk-weaker c.views.result _ _ (λ r. sized r.0) c.views.ensures.status
+
+pub returns-in-Opaque-clause-status : goal.returns-in-Opaque-clause-status
+returns-in-Opaque-clause-status g c = IfOk-weaker c.opaque.result _ _ (λ r. answered r.0) c.opaque.ensures.status
 
 pub returns-in-Focus-clause-status : goal.returns-in-Focus-clause-status
 returns-in-Focus-clause-status g c = IfOk-weaker c.focus.result _ _ (λ r. focused r.0) c.focus.ensures.status
@@ -102,6 +110,9 @@ returns-in-Swaps-clause-size g c = if_ok_all c.swaps.result _ (λ r large. subst
 
 pub returns-in-Views-clause-size : goal.returns-in-Views-clause-size
 returns-in-Views-clause-size g c = if_ok_all c.views.result _ (λ r large. subst (λ (k : Command). TellsSize (Some k)) (sym c.in-Views.is) tt)
+
+pub returns-in-Opaque-clause-size : goal.returns-in-Opaque-clause-size
+returns-in-Opaque-clause-size g c = IfOk-weaker c.opaque.result _ _ (λ r told large. absurd (decided_fits r.0 told large)) c.opaque.ensures.status
 
 -- ---- what is read to its end
 
@@ -133,6 +144,10 @@ pub returns-in-Views-clause-end : goal.returns-in-Views-clause-end
 returns-in-Views-clause-end g c =
     IfOk-weaker c.views.result _ _ (λ r end whole. end (whole_sound r.0 (subst (λ (k : Command). IsOfWhole (Some k) r.0) c.in-Views.is whole))) c.views.ensures.end
 
+pub returns-in-Opaque-clause-end : goal.returns-in-Opaque-clause-end
+returns-in-Opaque-clause-end g c =
+    IfOk-weaker c.opaque.result _ _ (λ r end whole. end (subst (λ (k : Command). IsOfWhole (Some k) r.0) c.in-Opaque.is whole)) c.opaque.ensures.end
+
 pub returns-in-Focus-clause-end : goal.returns-in-Focus-clause-end
 returns-in-Focus-clause-end g c =
     IfOk-weaker c.focus.result _ _ (λ r end whole. end (subst (λ (k : Command). IsOfWhole (Some k) r.0) c.in-Focus.is whole)) c.focus.ensures.end
@@ -163,9 +178,66 @@ returns-in-Recheck-clause-shown g c =
 pub returns-in-Views-clause-shown : goal.returns-in-Views-clause-shown
 returns-in-Views-clause-shown g c = IfOk-weaker c.views.result _ _ (λ r shown drives. shown) c.views.ensures.shown
 
+pub returns-in-Opaque-clause-shown : goal.returns-in-Opaque-clause-shown
+returns-in-Opaque-clause-shown g c =
+    if_ok_all c.opaque.result _ (λ r drives. absurd (subst (λ (k : Command). DrivesMachine (Some k)) c.in-Opaque.is drives))
+
 pub returns-in-Focus-clause-shown : goal.returns-in-Focus-clause-shown
 returns-in-Focus-clause-shown g c =
     if_ok_all c.focus.result _ (λ r drives. absurd (subst (λ (k : Command). DrivesMachine (Some k)) c.in-Focus.is drives))
+
+-- ---- the evidence of a rejection of `opaque`
+
+pub returns-in-Certify-clause-opaque : goal.returns-in-Certify-clause-opaque
+returns-in-Certify-clause-opaque g c =
+    if_ok_all c.certify.result _ (λ r is.
+    let no : ⊥ = cc in
+    absurd no)
+
+pub returns-in-Expand-clause-opaque : goal.returns-in-Expand-clause-opaque
+returns-in-Expand-clause-opaque g c =
+    if_ok_all c.expand.result _ (λ r is.
+    let no : ⊥ = cc in
+    absurd no)
+
+pub returns-in-Judge-clause-opaque : goal.returns-in-Judge-clause-opaque
+returns-in-Judge-clause-opaque g c =
+    if_ok_all c.judge.result _ (λ r is.
+    let no : ⊥ = cc in
+    absurd no)
+
+pub returns-in-Quick-clause-opaque : goal.returns-in-Quick-clause-opaque
+returns-in-Quick-clause-opaque g c =
+    if_ok_all c.quick.result _ (λ r is.
+    let no : ⊥ = cc in
+    absurd no)
+
+pub returns-in-Swaps-clause-opaque : goal.returns-in-Swaps-clause-opaque
+returns-in-Swaps-clause-opaque g c =
+    if_ok_all c.swaps.result _ (λ r is.
+    let no : ⊥ = cc in
+    absurd no)
+
+pub returns-in-Recheck-clause-opaque : goal.returns-in-Recheck-clause-opaque
+returns-in-Recheck-clause-opaque g c =
+    if_ok_all c.recheck.result _ (λ r is.
+    let no : ⊥ = cc in
+    absurd no)
+
+pub returns-in-Views-clause-opaque : goal.returns-in-Views-clause-opaque
+returns-in-Views-clause-opaque g c =
+    if_ok_all c.views.result _ (λ r is.
+    let no : ⊥ = cc in
+    absurd no)
+
+pub returns-in-Focus-clause-opaque : goal.returns-in-Focus-clause-opaque
+returns-in-Focus-clause-opaque g c =
+    if_ok_all c.focus.result _ (λ r is.
+    let no : ⊥ = cc in
+    absurd no)
+
+pub returns-in-Opaque-clause-opaque : goal.returns-in-Opaque-clause-opaque
+returns-in-Opaque-clause-opaque g c = IfOk-weaker c.opaque.result _ _ (λ r shown is. shown) c.opaque.ensures.shown
 
 -- ---- the evidence of a rejection of `judge`
 
@@ -205,6 +277,12 @@ returns-in-Recheck-clause-judged g c =
 pub returns-in-Views-clause-judged : goal.returns-in-Views-clause-judged
 returns-in-Views-clause-judged g c =
     if_ok_all c.views.result _ (λ r is.
+    let no : ⊥ = cc in
+    absurd no)
+
+pub returns-in-Opaque-clause-judged : goal.returns-in-Opaque-clause-judged
+returns-in-Opaque-clause-judged g c =
+    if_ok_all c.opaque.result _ (λ r is.
     let no : ⊥ = cc in
     absurd no)
 
@@ -255,6 +333,12 @@ returns-in-Views-clause-checked g c =
     let no : ⊥ = cc in
     absurd no)
 
+pub returns-in-Opaque-clause-checked : goal.returns-in-Opaque-clause-checked
+returns-in-Opaque-clause-checked g c =
+    if_ok_all c.opaque.result _ (λ r is.
+    let no : ⊥ = cc in
+    absurd no)
+
 pub returns-in-Focus-clause-checked : goal.returns-in-Focus-clause-checked
 returns-in-Focus-clause-checked g c =
     if_ok_all c.focus.result _ (λ r is.
@@ -284,6 +368,9 @@ returns-in-Recheck-clause-untouched g c = λ none. absurd (none (subst (λ (k : 
 pub returns-in-Views-clause-untouched : goal.returns-in-Views-clause-untouched
 returns-in-Views-clause-untouched g c = λ none. absurd (none (subst (λ (k : Command). Reads (Some k)) (sym c.in-Views.is) tt))
 
+pub returns-in-Opaque-clause-untouched : goal.returns-in-Opaque-clause-untouched
+returns-in-Opaque-clause-untouched g c = λ none. absurd (none (subst (λ (k : Command). Reads (Some k)) (sym c.in-Opaque.is) tt))
+
 pub returns-in-Focus-clause-untouched : goal.returns-in-Focus-clause-untouched
 returns-in-Focus-clause-untouched g c = λ none. absurd (none (subst (λ (k : Command). Reads (Some k)) (sym c.in-Focus.is) tt))
 
@@ -309,6 +396,9 @@ returns-in-Recheck-clause-reading g c = λ failed. subst (λ (k : Command). Read
 
 pub returns-in-Views-clause-reading : goal.returns-in-Views-clause-reading
 returns-in-Views-clause-reading g c = λ failed. subst (λ (k : Command). Reads (Some k)) (sym c.in-Views.is) tt
+
+pub returns-in-Opaque-clause-reading : goal.returns-in-Opaque-clause-reading
+returns-in-Opaque-clause-reading g c = λ failed. subst (λ (k : Command). Reads (Some k)) (sym c.in-Opaque.is) tt
 
 pub returns-in-Focus-clause-reading : goal.returns-in-Focus-clause-reading
 returns-in-Focus-clause-reading g c = λ failed. subst (λ (k : Command). Reads (Some k)) (sym c.in-Focus.is) tt
@@ -350,6 +440,11 @@ returns-in-Views-clause-read_fault g c = λ failed.
     let told = c.views.ensures.read_fault failed in
     (told.0, subst (λ (k : Command). ReadsSound (Some k) (g.S.Source.left c.args.source.now) (g.S.Source.left c.views.new.source)) (sym c.in-Views.is) told.1)
 
+pub returns-in-Opaque-clause-read_fault : goal.returns-in-Opaque-clause-read_fault
+returns-in-Opaque-clause-read_fault g c = λ failed.
+    let told = c.opaque.ensures.read_fault failed in
+    (told.0, subst (λ (k : Command). ReadsSound (Some k) (g.S.Source.left c.args.source.now) (g.S.Source.left c.opaque.new.source)) (sym c.in-Opaque.is) told.1)
+
 pub returns-in-Focus-clause-read_fault : goal.returns-in-Focus-clause-read_fault
 returns-in-Focus-clause-read_fault g c = λ failed.
     let told = c.focus.ensures.read_fault failed in
@@ -377,6 +472,9 @@ returns-in-Recheck-clause-most g c = subst (λ (k : Command). RisesAtMost (Some 
 
 pub returns-in-Views-clause-most : goal.returns-in-Views-clause-most
 returns-in-Views-clause-most g c = subst (λ (k : Command). RisesAtMost (Some k) (g.S.Source.left c.args.source.now) c.args.ticks.now c.views.new.ticks) (sym c.in-Views.is) c.views.ensures.most
+
+pub returns-in-Opaque-clause-most : goal.returns-in-Opaque-clause-most
+returns-in-Opaque-clause-most g c = subst (λ (k : Command). RisesAtMost (Some k) (g.S.Source.left c.args.source.now) c.args.ticks.now c.opaque.new.ticks) (sym c.in-Opaque.is) c.opaque.ensures.most
 
 pub returns-in-Focus-clause-most : goal.returns-in-Focus-clause-most
 returns-in-Focus-clause-most g c = subst (λ (k : Command). RisesAtMost (Some k) (g.S.Source.left c.args.source.now) c.args.ticks.now c.focus.new.ticks) (sym c.in-Focus.is) c.focus.ensures.most
@@ -410,6 +508,10 @@ returns-in-Recheck-clause-least g c =
 pub returns-in-Views-clause-least : goal.returns-in-Views-clause-least
 returns-in-Views-clause-least g c =
     IfOk-weaker c.views.result _ _ (λ r told. subst (λ (k : Command). RisesAtLeast (Some k) (g.S.Source.left c.args.source.now) r.0 c.args.ticks.now c.views.new.ticks) (sym c.in-Views.is) told) c.views.ensures.least
+
+pub returns-in-Opaque-clause-least : goal.returns-in-Opaque-clause-least
+returns-in-Opaque-clause-least g c =
+    IfOk-weaker c.opaque.result _ _ (λ r told. subst (λ (k : Command). RisesAtLeast (Some k) (g.S.Source.left c.args.source.now) r.0 c.args.ticks.now c.opaque.new.ticks) (sym c.in-Opaque.is) told) c.opaque.ensures.least
 
 pub returns-in-Focus-clause-least : goal.returns-in-Focus-clause-least
 returns-in-Focus-clause-least g c =

@@ -58,7 +58,7 @@ returns-in-Ok-send-clause-promise g c =
     let s = c.in-Ok.report.0 in
     let text = c.in-Ok.report.1 in
     let r = c.in-Ok.ensures in
-    let reports : Reports k left left' ticks ticks' s text = record { output = r.output; status = r.status; size = r.size; whole = r.end; shown = r.shown; judged = r.judged; checked = r.checked; least = r.least } in
+    let reports : Reports k left left' ticks ticks' s text = record { output = r.output; status = r.status; size = r.size; whole = r.end; shown = r.shown; opaque = r.opaque; judged = r.judged; checked = r.checked; least = r.least } in
     let told = c.in-Ok-send.ensures in
     let reads : g.S.Source.faults source' ≡ g.S.Source.faults source = search rules in
     let writes : g.K.Sink.faults sink' ≡ g.K.Sink.faults sink = told.faultless in
@@ -89,7 +89,7 @@ returns-in-Err-WriteFault-clause-promise g c =
     let s = c.in-Ok.report.0 in
     let text = c.in-Ok.report.1 in
     let r = c.in-Ok.ensures in
-    let reports : Reports k left left' ticks ticks' s text = record { output = r.output; status = r.status; size = r.size; whole = r.end; shown = r.shown; judged = r.judged; checked = r.checked; least = r.least } in
+    let reports : Reports k left left' ticks ticks' s text = record { output = r.output; status = r.status; size = r.size; whole = r.end; shown = r.shown; opaque = r.opaque; judged = r.judged; checked = r.checked; least = r.least } in
     let written : AppendsPrefix held held' text = subst (AppendsPrefix held held') c.bytes.ensures c.in-Err-WriteFault.ensures.err in
     subst (λ (o : Option Command). RunPromise (source' ≡ source) (sink' ≡ sink) o (outcome left left' held held' statuses.WriteFault ticks ticks') n) (sym command)
     (write_failed (source' ≡ source) (sink' ≡ sink) left left' held held' ticks ticks' n k performs s text reports written c.send.ensures.once c.send.ensures.count (c.send.ensures.write_fault (search rules)))
@@ -117,7 +117,7 @@ returns-clause-promise g c =
     let s = c.in-Ok.report.0 in
     let text = c.in-Ok.report.1 in
     let r = c.in-Ok.ensures in
-    let reports : Reports k left left' ticks ticks' s text = record { output = r.output; status = r.status; size = r.size; whole = r.end; shown = r.shown; judged = r.judged; checked = r.checked; least = r.least } in
+    let reports : Reports k left left' ticks ticks' s text = record { output = r.output; status = r.status; size = r.size; whole = r.end; shown = r.shown; opaque = r.opaque; judged = r.judged; checked = r.checked; least = r.least } in
     let written : AppendsPrefix held held' text = subst (AppendsPrefix held held') c.bytes.ensures c.in-Err-Memory.ensures.err in
     subst (λ (o : Option Command). RunPromise (source' ≡ source) (sink' ≡ sink) o (outcome left left' held held' statuses.OutOfMemory ticks ticks') n) (sym command)
     (sink_refused (source' ≡ source) (sink' ≡ sink) left left' held held' ticks ticks' n k performs s text reports written c.send.ensures.once c.send.ensures.count (c.send.ensures.memory (search rules)))
