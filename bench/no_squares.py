@@ -141,6 +141,13 @@ def withdrawn(count):
     return records + [named("commit", readers[0])], 1 + count + 6 * count + 2 * count + 2, 1
 
 
+def withdrawn_beside(count):
+    """The same, after another transaction has committed as many additions to another object."""
+    records, steps, committed = withdrawn(count)
+    first = [begin("w", "pw")] + [op("w", 3 * count + number, "add", [1], on="o2") for number in range(count)] + [named("commit", "w")]
+    return first + records, 1 + 2 * count + 1 + steps, committed + 1
+
+
 def followed(calls):
     """A transaction publishes additions one by one. Another, whose source it is, adds after each of them."""
     (source, tx), records = opened(2)
@@ -206,6 +213,7 @@ RUNS = (
     ("a small source dropped beside a large one", header("dependent", "counter"), retaken, 5_000),
     ("sources dropped by a long transaction", header("dependent", "mem"), dropped_alone, 11_000),
     ("additions published and withdrawn", header("dependent", "counter"), withdrawn, 17_900),
+    ("the same beside additions that stay", header("dependent", "counter", "counter"), withdrawn_beside, 16_000),
     ("additions of a source, a reader after each", header("dependent", "counter"), followed, 20_000),
     ("rounds of 6,000 calls, each undone", header("boosted", "map"), undone, 8),
     ("hardware sections that read and abort", header("hardware", "mem"), aborted, 10_000),
