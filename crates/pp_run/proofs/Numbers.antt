@@ -13,7 +13,8 @@ use Rattle.std.proofs.lemmas.Str.{IsUtf8-from_ascii}
 use Rattle.pp_format_read.specs.Members.{name_from}
 use Rattle.pp_run.specs.Words.{command_named, command_of, drill_number}
 use Rattle.pp_run.specs.declared.words.Command.{Command}
-use Rattle.pp_run.specs.declared.words.Command.TheVariants.{Certify, Drill, Expand, Focus, Judge, Quick, Recheck, Swaps, Views}
+use Rattle.pp_run.specs.declared.words.Command.TheVariants.{Certify, Drill, Expand, Focus, Judge, Opaque}
+use Rattle.pp_run.specs.declared.words.Command.TheVariants.{Quick, Recheck, Swaps, Views}
 use Rattle.std.proofs.lemmas.Bool.{and_parts}
 use Rattle.pp_laws_summary.proofs.Lookups.{and_true}
 
@@ -114,8 +115,9 @@ unnumbered word =
     (either (is (codes "quick")) (Some Quick) _ (λ n e. let no : Some Quick ≡ Some (Drill n) = e in cc)
     (either (is (codes "swaps")) (Some Swaps) _ (λ n e. let no : Some Swaps ≡ Some (Drill n) = e in cc)
     (either (is (codes "recheck")) (Some Recheck) _ (λ n e. let no : Some Recheck ≡ Some (Drill n) = e in cc)
-    (either (is (codes "views")) (Some Views) None (λ n e. let no : Some Views ≡ Some (Drill n) = e in cc)
-    (λ n e. let no : None ≡ Some (Drill n) = e in cc)))))))
+    (either (is (codes "views")) (Some Views) _ (λ n e. let no : Some Views ≡ Some (Drill n) = e in cc)
+    (either (is (codes "opaque")) (Some Opaque) None (λ n e. let no : Some Opaque ≡ Some (Drill n) = e in cc)
+    (λ n e. let no : None ≡ Some (Drill n) = e in cc))))))))
 
 focused : (b : Bool) (o : Option (List ℕ)) → IsUnnumbered (if b then option_map (λ name. Focus name) o else None)
 focused true (Some name) n e = let no : Some (Focus name) ≡ Some (Drill n) = e in cc
