@@ -2,7 +2,7 @@
 """`judge` on long boosted or optimistic runs: transactions of five puts on a map of 20,000 keys and of one addition to a
 counter, one after another, of eight threads in turn. It is compared with only reading the same lines, at two sizes.
 
-    python3 bench/long_boosted.py PROGRAM [--style optimistic] [--transactions N]
+    python3 bench/long_judged.py PROGRAM [--style optimistic] [--transactions N]
 
 A transaction is eight lines. So the 125,000 of the smaller run are 1,000,001 lines. The verdict and the number of steps
 are checked: a transaction pulls all that was committed before it.
