@@ -213,7 +213,7 @@ RUNS = (
     ("a small source dropped beside a large one", header("dependent", "counter"), retaken, 5_000),
     ("sources dropped by a long transaction", header("dependent", "mem"), dropped_alone, 11_000),
     ("additions published and withdrawn", header("dependent", "counter"), withdrawn, 17_900),
-    ("the same beside additions that stay", header("dependent", "counter", "counter"), withdrawn_beside, 16_000),
+    ("additions withdrawn beside additions that stay", header("dependent", "counter", "counter"), withdrawn_beside, 16_000),
     ("additions of a source, a reader after each", header("dependent", "counter"), followed, 20_000),
     ("rounds of 6,000 calls, each undone", header("boosted", "map"), undone, 8),
     ("hardware sections that read and abort", header("hardware", "mem"), aborted, 10_000),
