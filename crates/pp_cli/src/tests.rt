@@ -28,7 +28,9 @@ use crate::tests::expanded_runs::{EXPANDED, OLD_READ};
 use crate::tests::faulty_inputs::FAULTY;
 use crate::tests::given_words::GivenWords;
 use crate::tests::hostile_lines::HOSTILE;
-use crate::tests::long_inputs::{LONG, MANY_PEAKS, TOO_MANY_STEPS, bytes_of, turned_commits};
+use crate::tests::long_inputs::{
+    JUDGED, LONG, MANY_PEAKS, TOO_MANY_STEPS, bytes_of, turned_commits,
+};
 use crate::tests::made_runs::MADE;
 use crate::tests::rejected_runs::REJECTED;
 use crate::tests::row::{COUNTER, Row};
@@ -304,6 +306,17 @@ fn long_inputs_have_their_reports(rt: HostRuntime) -> Result<(), Fail> {
     let alloc = rt.alloc();
     for long in &LONG {
         let answer = certified_bytes(alloc, bytes_of(alloc, long.input)?, false)?;
+        let report = bytes_of(alloc, long.report)?;
+        assert_answer(&rt, long.what, &answer, long.status, report.as_slice());
+    }
+    Ok(())
+}
+
+#[test]
+fn runs_past_the_limits_of_certify_are_judged(rt: HostRuntime) -> Result<(), Fail> {
+    let alloc = rt.alloc();
+    for long in &JUDGED {
+        let answer = answered_bytes(alloc, b"judge", bytes_of(alloc, long.input)?, false)?;
         let report = bytes_of(alloc, long.report)?;
         assert_answer(&rt, long.what, &answer, long.status, report.as_slice());
     }

@@ -1,5 +1,6 @@
 pub mod Ending
 pub mod Violating
+pub mod RunJudging
 pub mod BoostedJudging
 pub mod OptimisticReading
 pub mod OptimisticJudging

@@ -39,7 +39,6 @@ use Rattle.pp_judge.specs.Objects.{object_of, start_of, translation_of}
 use Rattle.pp_cmd_quick.specs.Decisions.{steps_behind}
 use Rattle.pp_cmd_judge.specs.Optimistic.{AreTakenBehind, StartsSnapshots}
 use Rattle.pp_cmd_judge.specs.OptimisticCosts.{AreTriedAfter, first_summary}
-use Rattle.pp_cmd_judge.specs.declared.optimistic.OptimisticJudge.{OptimisticJudge}
 
 -- Snapshots over any objects, with any start, take the records of a run one after another.
 pub takes_of : (ks : List Kind) (h : Option (Start Op)) → TakesRuns objects place_of ks h
@@ -110,7 +109,7 @@ module _ (header : Header) (snapshots : Taken (List Kind) Op) (new : snapshots �
 
 -- ---- the records
 
-module _ (h : Header) (rs : Records (RunRecord Op)) (judge : OptimisticJudge) (c : AreTakenBehind h rs judge) where
+module _ (h : Header) (rs : Records (RunRecord Op)) (snapshots : Taken (List Kind) Op) (c : AreTakenBehind h rs snapshots) where
   abbrev own_kinds : List Kind
   own_kinds = kinds_of h.catalog
 
@@ -118,48 +117,46 @@ module _ (h : Header) (rs : Records (RunRecord Op)) (judge : OptimisticJudge) (c
   reads = takes_of own_kinds (start_of h)
 
   -- what was committed
-  pub committed_are : judge.snapshots.done ≡ map committed_tx (attempts (start_of h) (bare (steps_behind h rs)))
+  pub committed_are : snapshots.done ≡ map committed_tx (attempts (start_of h) (bare (steps_behind h rs)))
   committed_are =
-      subst (λ (s : Style). judge.snapshots.done ≡ map committed_tx (attempts (start_of h) (bare (all_steps (translation place_of s own_kinds) (start_of h) rs)))) (sym c.style)
-      (reads.committed rs judge.snapshots c.taken)
+      subst (λ (s : Style). snapshots.done ≡ map committed_tx (attempts (start_of h) (bare (all_steps (translation place_of s own_kinds) (start_of h) rs)))) (sym c.style)
+      (reads.committed rs snapshots c.taken)
 
   -- Each of the records that are good is good in the summary of those before it.
   pub good_runs : GoodRuns (summing styles.Optimistic (object_of h) place_of) (first_summary h) (bare rs)
   good_runs =
       subst (λ (k : List Kind). GoodRuns (summing styles.Optimistic (rules_of objects k) place_of) (first_summary h) (bare rs)) c.shape
-      (reads.are_good rs judge.snapshots c.taken)
+      (reads.are_good rs snapshots c.taken)
 
   -- The summary of the Snapshots is the one after the records.
-  pub summary_is : summary_taken own_kinds judge.snapshots ≡ summary_after (summing styles.Optimistic (object_of h) place_of) (first_summary h) (bare rs)
+  pub summary_is : summary_taken own_kinds snapshots ≡ summary_after (summing styles.Optimistic (object_of h) place_of) (first_summary h) (bare rs)
   summary_is =
-      subst (λ (k : List Kind). summary_taken own_kinds judge.snapshots ≡ summary_after (summing styles.Optimistic (rules_of objects k) place_of) (first_summary h) (bare rs)) c.shape
-      (reads.leads rs judge.snapshots c.taken)
+      subst (λ (k : List Kind). summary_taken own_kinds snapshots ≡ summary_after (summing styles.Optimistic (rules_of objects k) place_of) (first_summary h) (bare rs)) c.shape
+      (reads.leads rs snapshots c.taken)
 
   -- what the next record costs at most, by that summary
-  pub next_most : (r : RunRecord Op) → take_most place_of part_of silent_of (summary_taken [] judge.snapshots) r
+  pub next_most : (r : RunRecord Op) → take_most place_of part_of silent_of (summary_taken [] snapshots) r
       ≡ take_most place_of part_of silent_of (summary_after (summing styles.Optimistic (object_of h) place_of) (first_summary h) (bare rs)) r
-  next_most r = any_kinds_most [] own_kinds judge.snapshots r ∙ ap (λ (B : Summary Op). take_most place_of part_of silent_of B r) summary_is
+  next_most r = any_kinds_most [] own_kinds snapshots r ∙ ap (λ (B : Summary Op). take_most place_of part_of silent_of B r) summary_is
 
   -- All records that are good are tried.
   pub all_tried : AreTriedAfter h rs (bare rs)
-  all_tried = subst (λ (k : List Kind). AreTried (rules_of objects k) place_of (first_summary h) (bare rs) (bare rs)) c.shape (reads.all_tried rs judge.snapshots c.taken)
+  all_tried = subst (λ (k : List Kind). AreTried (rules_of objects k) place_of (first_summary h) (bare rs) (bare rs)) c.shape (reads.all_tried rs snapshots c.taken)
 
   -- a record that is not good is the first of which a step fails
-  pub fails_next : (r : Lined (RunRecord Op)) (next : Taken (List Kind) Op) → IsOptimistic r.what → Takes objects place_of judge.snapshots r.what false next
+  pub fails_next : (r : Lined (RunRecord Op)) (next : Taken (List Kind) Op) → IsOptimistic r.what → Takes objects place_of snapshots r.what false next
       → FailsIn (object_of h) (translation_of h) (start_of h) (rs ++ r ∷ []) r
   fails_next r next optimistic takes =
       subst (λ (s : Style). FailsIn (object_of h) (translation place_of s own_kinds) (start_of h) (rs ++ r ∷ []) r) (sym c.style)
       (subst (λ (k : List Kind). FailsIn (rules_of objects k) (optimism place_of own_kinds) (start_of h) (rs ++ r ∷ []) r) c.shape
-      (reads.fails rs [] r judge.snapshots next optimistic c.taken takes))
+      (reads.fails rs [] r snapshots next optimistic c.taken takes))
 
   -- Snapshots that refuse a record are those of the same records.
-  pub refused_stays : (r : Lined (RunRecord Op)) (next : Taken (List Kind) Op) → Takes objects place_of judge.snapshots r.what false next
-      → AreTakenBehind h rs (record { snapshots = next; steps = judge.steps })
+  pub refused_stays : (r : Lined (RunRecord Op)) (next : Taken (List Kind) Op) → Takes objects place_of snapshots r.what false next
+      → AreTakenBehind h rs next
   refused_stays r next takes = record {
     style = c.style;
     shape = takes.1.shape ∙ c.shape;
-    taken = reads.stays rs r judge.snapshots next c.taken takes;
+    taken = reads.stays rs r snapshots next c.taken takes;
     count = subst (λ (n : ℕ). n ≤ 2_147_483_646) (sym takes.1.count) c.count;
-    steps = c.steps;
-    few = subst (λ (n : ℕ). judge.steps ≤ 2_147_483_903 * n) (sym takes.1.count) c.few;
   }

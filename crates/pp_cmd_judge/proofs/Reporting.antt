@@ -40,10 +40,10 @@ use Rattle.pp_cmd_judge.specs.Inputs.{judge_scan}
 use Rattle.pp_cmd_judge.specs.Judgements.{IsJudgeOutput, IsJudgedEvident, IsJudgement, judge_fault}
 use Rattle.pp_cmd_judge.specs.Rejections.{IsRejectedBehind}
 use Rattle.pp_cmd_judge.specs.StyleJudging.{done_of, shape_of, step_count, style_judging}
-use Rattle.pp_cmd_judge.specs.StyleLaws.{good_style, judged_fault, rejected_style}
+use Rattle.pp_cmd_judge.specs.StyleLaws.{good_style, judged_fault}
 use Rattle.pp_cmd_judge.specs.declared.style_judge.StyleJudge.{StyleJudge}
 use Rattle.pp_cmd_judge.proofs.Judged.{one_judgement}
-use Rattle.pp_cmd_judge.proofs.StyleJudging.{accepted_by, rejected_by, shape_is}
+use Rattle.pp_cmd_judge.proofs.StyleJudging.{accepted_by, shape_is}
 
 -- ---- a fault
 
@@ -138,13 +138,13 @@ module _ (sc : InputScan) (tally : Tally) (judge : StyleJudge) (g : AreGood styl
 module _ (sc : InputScan) (tally : Tally) (rejection : Rejection) (b : AreRejected style_judging sc tally rejection) where
   -- the run of a scan that is rejected ends with its rejection
   pub rejected_so : IsRejectedBehind (headed b.follows.at tally.header) sc.records rejection
-  rejected_so = rejected_by tally.header.style (headed b.follows.at tally.header) sc.records rejection b.bad
+  rejected_so = b.bad.rejected
 
   -- a scan of which the start or a record is rejected has no fault
   pub rejected_sound : judge_fault sc ≡ None
   rejected_sound =
       let h = headed b.follows.at tally.header in
-      judged_fault sc h b.follows.header (rejected_style tally.header.style h sc.records rejection b.bad) ∙ b.follows.sound
+      judged_fault sc h b.follows.header b.bad.style ∙ b.follows.sound
 
   rejected_report : Reports sc sc.header (RejectedTold tally.header rejection)
   rejected_report =

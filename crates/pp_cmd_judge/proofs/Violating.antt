@@ -5,18 +5,14 @@ use Rattle.std.proofs.Common.{refl, sym, ap, subst, ◌∙◌, arith, append_ass
 use mathlib.Core.Logic.{inl}
 use Rattle.pp_core.specs.Steps.{rule_of}
 use Rattle.pp_core.specs.declared.call.Kind.{Kind}
-use Rattle.pp_core.specs.declared.call.Style.{Style}
 use Rattle.pp_core.specs.declared.step.Rule.{Rule}
 use Rattle.pp_core.specs.declared.step.Rule.TheVariants as rules
 use Rattle.pp_model.proofs.Begin.{start_sound}
 use Rattle.pp_model.proofs.Keeps.{run_keeps}
-use Rattle.pp_model.specs.Config.{Config, Step, after, after_from, first}
+use Rattle.pp_model.specs.Config.{Config, Step, after, first}
 use Rattle.pp_model.specs.Sound.{Sound}
-use Rattle.pp_records.specs.Expansions.{expand}
-use Rattle.pp_records.specs.Fronts.{Front}
 use Rattle.pp_records.specs.Records.{RunRecord}
-use Rattle.pp_records.specs.Runs.{IsRun, Lined, LinedSteps, Records, Standing, bare}
-use Rattle.pp_records.specs.Styles.{translation}
+use Rattle.pp_records.specs.Runs.{IsRun, Lined, LinedSteps, Records, bare}
 use Rattle.pp_format_read.specs.declared.header.Header.{Header}
 use Rattle.pp_format_read.specs.Records.{IsReadable}
 use Rattle.pp_kind.specs.Object.{rules_of}
@@ -25,11 +21,9 @@ use Rattle.pp_machine.specs.Evidence.{Fits, evidence}
 use Rattle.pp_machine.specs.Machines.{Seen}
 use Rattle.pp_machine.specs.declared.detail.Detail.{Detail}
 use Rattle.pp_machine.specs.declared.machine.Outcome.TheVariants.{False}
-use Rattle.pp_objects.specs.Objects.{kinds_of, objects, place_of}
+use Rattle.pp_objects.specs.Objects.{kinds_of, objects}
 use Rattle.pp_objects.specs.laws.Objects.{objects_lawful}
 use Rattle.pp_objects.specs.declared.act.Op.{Op}
-use Rattle.pp_laws_evidence.specs.Details.{FailsAt}
-use Rattle.pp_summary.specs.Failures.{standing_after}
 use Rattle.pp_violations.specs.declared.violation.Violation.{Violation}
 use Rattle.pp_judge.proofs.Asking.{expansion_asked}
 use Rattle.pp_judge.specs.Objects.{object_of, start_of, translation_of}
@@ -38,6 +32,7 @@ use Rattle.pp_judge.specs.Rejected.{IsStepEvident}
 use Rattle.pp_judge.specs.Tallies.{headed, one_more}
 use Rattle.pp_judge.specs.declared.driven.Rejection.{Rejection}
 use Rattle.pp_cmd_quick.specs.Decisions.{AllHold, steps_behind}
+use Rattle.pp_cmd_judge.specs.Engines.{Found, led, own}
 use Rattle.pp_cmd_judge.specs.Rejections.{IsRejectedBehind}
 use Rattle.pp_cmd_judge.proofs.Ending as ending
 
@@ -75,28 +70,13 @@ module _ (h : Header) (rs : Records (RunRecord Op)) where
   abbrev ks : List Kind
   ks = kinds_of h.catalog
 
-  -- where the records lead, in this style
-  abbrev pub led : Style → Standing Front Op
-  led style = standing_after (translation place_of style ks) (start_of h) rs
-
-  -- the steps of one record more
-  abbrev pub own : Style → RunRecord Op → List (Step Op)
-  own style r = expand place_of style (led style).front (led style).config r
-
   module _ (r : RunRecord Op) (x : Violation Op) where
-    -- the violation is of these steps, over objects of this shape, with its evidence
-    abbrev pub Found : List Kind → Style → Type 0
-    Found shape style = (s : Step Op) × (n : ℕ)
-        × FailsAt objects shape place_of (led style).config (own style r) x.offset s n
-        × (x.rule ≡ rule_of s) × (x.criterion ≡ suc n)
-        × (x.detail ≡ evidence objects shape (after_from (led style).config (take x.offset (own style r))) s (suc n))
-
     -- the place of a violation is below the number of steps of the record
-    pub found_below : Found ks h.style → x.offset < length (own h.style r)
-    found_below k = ending.place_below (own h.style r) x.offset k.0 k.2.there
+    pub found_below : Found h rs r x ks h.style → x.offset < length (own h rs h.style r)
+    found_below k = ending.place_below (own h rs h.style r) x.offset k.0 k.2.there
 
     -- the run ends with this step
-    module _ (steps : ℕ) (steps_are : steps ≡ length (steps_behind h rs)) (holds : AllHold h rs) (k : Found ks h.style) (at line : ℕ) (readable : IsReadable h.catalog r) where
+    module _ (steps : ℕ) (steps_are : steps ≡ length (steps_behind h rs)) (holds : AllHold h rs) (k : Found h rs r x ks h.style) (at line : ℕ) (readable : IsReadable h.catalog r) where
       abbrev s : Step Op
       s = k.0
 
@@ -123,7 +103,7 @@ module _ (h : Header) (rs : Records (RunRecord Op)) where
 
       evident : IsStepEvident ks before s (suc n)
       evident =
-          let asked = expansion_asked h.catalog h.style (led h.style).front (led h.style).config r readable s (ending.in_there (own h.style r) x.offset s k.2.there) in (
+          let asked = expansion_asked h.catalog h.style (led h rs h.style).front (led h rs h.style).config r readable s (ending.in_there (own h rs h.style r) x.offset s k.2.there) in (
             sound,
             (evidence_law objects objects_lawful ks).shows before s n sound asked
                 (ending.breaks_there (object_of h) (translation_of h) (start_of h) rs it x.offset s n k.2.there k.2.before k.2.breaks holds.0 holds.1),

@@ -1,8 +1,6 @@
--- Proof machinery: the laws of the summary, with its number of steps, as a judge.
+-- Proof machinery: the laws of the summary as the engine of boosted runs, and of what it costs.
 use Rattle.std.specs.Prelude.{◌≡◌, ◌≤◌, ◌+◌, ℕ, [], length, Option, None, Some}
 use Rattle.std.proofs.Common.{refl, sym, ap, ◌∙◌, subst, arith, length-append}
-use Rattle.pp_core.specs.declared.call.Style.{Style}
-use Rattle.pp_core.specs.declared.call.Style.TheVariants.{Boosted}
 use Rattle.pp_records.specs.Inputs.{Widens}
 use Rattle.pp_records.specs.Records.{RunRecord}
 use Rattle.pp_records.specs.Runs.{Lined, Records}
@@ -10,23 +8,13 @@ use Rattle.pp_format_read.specs.declared.header.Header.{Header}
 use Rattle.pp_objects.specs.declared.act.Op.{Op}
 use Rattle.pp_summary.proofs.Failures.{failure_law}
 use Rattle.pp_summary.specs.Failures.{FailsIn}
-use Rattle.pp_input_reader.specs.declared.cause.Cause.TheVariants.{StyleNotJudged}
-use Rattle.pp_judge.specs.Judging.{JudgingLaws}
 use Rattle.pp_judge.specs.Objects.{object_of, start_of, translation_of}
 use Rattle.pp_judge.specs.Scans.{InputScan, nothing}
-use Rattle.pp_judge.specs.Tallies.{scan_of}
 use Rattle.pp_cmd_quick.specs.Costs.{OfTried, RecordsCostAtMost, tried_most}
-use Rattle.pp_cmd_quick.specs.DeciderLaws.{quick_laws, style_fault_stays, taken_fault}
-use Rattle.pp_cmd_quick.specs.Decisions.{is_boosted}
-use Rattle.pp_cmd_judge.specs.Boosted.{boosted_judging, boosted_scan_fault}
+use Rattle.pp_cmd_quick.specs.DeciderLaws.{all_hold, quick_laws}
+use Rattle.pp_cmd_judge.specs.Boosted.{boosted_engine}
 use Rattle.pp_cmd_judge.specs.BoostedCosts.{BoostedCostAtMost, NoneFails, search_most}
-use Rattle.pp_cmd_judge.specs.Rejections.{rejected_stays}
-
--- the fault of a boosted run is that of the scan
-pub boosted_fault : (sc : InputScan) (h : Lined Header) → sc.header ≡ Some h →
-    h.what.style ≡ Boosted → boosted_scan_fault sc ≡ sc.fault
-boosted_fault sc h there is =
-    taken_fault is_boosted StyleNotJudged sc h there (ap (λ (s : Style). is_boosted s) is)
+use Rattle.pp_cmd_judge.specs.EngineLaws.{EngineLaws}
 
 -- ---- the cost
 
@@ -58,9 +46,9 @@ none_stays sc wider w none = by sc.header refl
         ((failure_law (object_of h.what) (translation_of h.what)).stays (start_of h.what)
         sc.records w.records.0 r f))
 
-pub judged_widens : (sc wider : InputScan) (old new : ℕ) → Widens sc wider →
+pub boosted_widens : (sc wider : InputScan) (old new : ℕ) → Widens sc wider →
     BoostedCostAtMost sc old new → BoostedCostAtMost wider old new
-judged_widens sc wider old new w cost = (
+boosted_widens sc wider old new w cost = (
   λ none. quick_laws.most_widens sc wider old new w (cost.0 (none_stays sc wider w none)),
   cost_from wider (old + search_most sc.records) (old + search_most wider.records) new
       (grows (length sc.records) (length wider.records) (length w.records.0)
@@ -72,8 +60,8 @@ judged_widens sc wider old new w cost = (
     grows : (a b more : ℕ) → b ≡ a + more → old + (a + 256) ≤ old + (b + 256)
     grows a b more e = omega (arith, e)
 
-nothing_judged : (old : ℕ) → BoostedCostAtMost nothing old old
-nothing_judged old = (
+pub boosted_first : (old : ℕ) → BoostedCostAtMost nothing old old
+boosted_first old = (
   λ none. quick_laws.first_most old,
   cost_from nothing old (old + search_most []) old (from old (search_most []))
       (quick_laws.first_most old),
@@ -82,24 +70,13 @@ nothing_judged old = (
     from : (n m : ℕ) → n ≤ n + m
     from n m = omega arith
 
-pub boosted_laws : JudgingLaws boosted_judging
+-- ---- the laws
+
+pub boosted_laws : EngineLaws boosted_engine
 boosted_laws = record {
-  not_both = λ h rs judge rejection good bad. quick_laws.not_both h rs
-      (record { quick = judge.quick }) (record { line = rejection.line }) good.good
-      (bad.0, bad.1);
-  one_fault = λ sc f g is same. sym is ∙ same;
-  first_fault = λ fault. refl;
-  good_fault = λ h rs judge fault good. boosted_fault (record (scan_of h rs) { fault = fault }) h
-      refl good.good.style;
-  rejected_fault = λ h rs rejection fault bad. boosted_fault
-      (record (scan_of h rs) { fault = fault }) h refl bad.0;
-  fault_stays = style_fault_stays is_boosted StyleNotJudged;
-  rejection_stays = λ h rs more rejection bad.
-      let fails = quick_laws.rejection_stays h rs more (record { line = rejection.line })
-      (bad.0, bad.1) in
-      (bad.0, fails.1, rejected_stays h rs more rejection bad.2);
-  first_most = nothing_judged;
-  most_widens = judged_widens;
-  rejected_least_stays = λ h rs more rejection old new bad least. quick_laws.rejected_least_stays h
-      rs more (record { line = rejection.line }) old new (bad.0, bad.1) least;
+  judged = refl;
+  style = λ h rs quick good. good.style;
+  hold = all_hold;
+  good = λ h rs judge c. c;
+  own_good = λ h rs judge c. c;
 }

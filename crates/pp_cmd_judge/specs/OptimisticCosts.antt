@@ -45,15 +45,14 @@ OfTriedAfter (Some header) records P = (tried : List (RunRecord Op)) →
 abbrev pub SnapshotsCostAtMost : InputScan → (old new : ℕ) → Type 0
 SnapshotsCostAtMost sc old new = OfTriedAfter sc.header sc.records λ most. new ≤ old + most
 
--- the start meets its criteria, and so does each step of the records
-abbrev pub NothingFails : Option (Lined Header) → Records (RunRecord Op) → Type 0
-NothingFails None records = Unit {0}
-NothingFails (Some header) records =
-    StartMeets (object_of header.what) (start_of header.what) × NoneFails (Some header) records
+-- the start meets its criteria
+abbrev pub HasGoodStart : Option (Lined Header) → Type 0
+HasGoodStart None = Unit {0}
+HasGoodStart (Some header) = StartMeets (object_of header.what) (start_of header.what)
 
--- The counter rises at most by what deciding the start and the records costs, if nothing fails. In
+-- The counter rises at most by what deciding the start and the records costs, if none fails. In
 -- any case it rises at most by that and what the search for the step of a rejection costs.
 abbrev pub OptimisticCostAtMost : InputScan → (old new : ℕ) → Type 0
 OptimisticCostAtMost sc old new =
-    (NothingFails sc.header sc.records → SnapshotsCostAtMost sc old new)
+    (HasGoodStart sc.header → NoneFails sc.header sc.records → SnapshotsCostAtMost sc old new)
     × SnapshotsCostAtMost sc (old + search_most sc.records) new

@@ -1,5 +1,7 @@
--- Proof machinery: what holds of the snapshots with their number of steps as a judge.
-use Rattle.std.specs.Prelude.{◌≡◌, ◌≤◌, ◌+◌, ℕ, Bool, List, [], ◌∷◌, ◌++◌, length, Option, None, Some}
+-- Proof machinery: the laws of the snapshots as the engine of optimistic runs, and of what they
+-- cost.
+use Rattle.std.specs.Prelude.{◌≡◌, ◌≤◌, ◌+◌, ℕ, Bool, List, [], ◌∷◌, ◌++◌, length}
+use Rattle.std.specs.Prelude.{Option, None, Some}
 use Rattle.std.proofs.Common.{refl, sym, ap, ◌∙◌, subst, arith, length-append}
 use mathlib.Core.Logic.{inl, inr}
 use Rattle.pp_core.specs.declared.call.Kind.{Kind}
@@ -22,37 +24,25 @@ use Rattle.pp_kind_parts.specs.Silent.{silent_of}
 use Rattle.pp_objects.specs.declared.act.Op.{Op}
 use Rattle.pp_summary.specs.Failures.{all_steps}
 use Rattle.pp_kind.specs.declared.part.Part.{Part}
+use Rattle.pp_snapshots.specs.Held.{Taken}
 use Rattle.pp_snapshots.specs.Costs.{AreTried, records_most, take_most}
 use Rattle.pp_snapshots.specs.Runs.{optimism}
-use Rattle.pp_input_reader.specs.declared.cause.Cause.TheVariants.{StyleNotJudged}
 use Rattle.pp_judge.specs.Costs.{start_at_most}
-use Rattle.pp_judge.specs.Judging.{JudgingLaws}
 use Rattle.pp_judge.specs.Objects.{object_of, start_of}
 use Rattle.pp_judge.specs.Scans.{InputScan, nothing}
-use Rattle.pp_judge.specs.Tallies.{scan_of}
 use Rattle.pp_judge.specs.laws.Driven.{add_le, up_more}
-use Rattle.pp_cmd_quick.specs.DeciderLaws.{fails_stay, none_fails, passed_least}
-use Rattle.pp_cmd_quick.specs.DeciderLaws.{style_fault_stays, taken_fault}
 use Rattle.pp_cmd_quick.specs.Decisions.{AllHold}
-use Rattle.pp_cmd_judge.specs.BoostedCosts.{NoneFails, search_most}
+use Rattle.pp_cmd_judge.specs.BoostedCosts.{search_most}
 use Rattle.pp_cmd_judge.specs.BoostedLaws.{none_stays}
-use Rattle.pp_cmd_judge.specs.Optimistic.{AreTakenBehind, is_optimistic, optimistic_judging}
-use Rattle.pp_cmd_judge.specs.Optimistic.{optimistic_scan_fault}
-use Rattle.pp_cmd_judge.specs.OptimisticCosts.{NothingFails, OfTriedAfter, OptimisticCostAtMost}
+use Rattle.pp_cmd_judge.specs.EngineLaws.{EngineLaws}
+use Rattle.pp_cmd_judge.specs.Optimistic.{AreTakenBehind, optimistic_engine}
+use Rattle.pp_cmd_judge.specs.OptimisticCosts.{HasGoodStart, OfTriedAfter, OptimisticCostAtMost}
 use Rattle.pp_cmd_judge.specs.OptimisticCosts.{SnapshotsCostAtMost, first_summary, snapshots_most}
-use Rattle.pp_cmd_judge.specs.Rejections.{rejected_stays}
-use Rattle.pp_cmd_judge.specs.declared.optimistic.OptimisticJudge.{OptimisticJudge}
-
--- in an optimistic run the fault is that of the scan
-pub optimistic_fault : (sc : InputScan) (h : Lined Header) → sc.header ≡ Some h →
-    h.what.style ≡ Optimistic → optimistic_scan_fault sc ≡ sc.fault
-optimistic_fault sc h there is =
-    taken_fault is_optimistic StyleNotJudged sc h there (ap (λ (s : Style). is_optimistic s) is)
 
 -- the start and each step of records that are good meet their criteria
-pub all_meet : (h : Header) (rs : Records (RunRecord Op)) (judge : OptimisticJudge) →
-    AreTakenBehind h rs judge → AllHold h rs
-all_meet h rs judge c = (
+pub all_meet : (h : Header) (rs : Records (RunRecord Op)) (snapshots : Taken (List Kind) Op) →
+    AreTakenBehind h rs snapshots → AllHold h rs
+all_meet h rs snapshots c = (
   subst (λ (k : List Kind). StartMeets (rules_of objects k) (start_of h)) c.shape c.taken.begun,
   subst (λ (s : Style). RunsFrom (object_of h) (first (start_of h))
       (bare (all_steps (translation place_of s (kinds_of h.catalog)) (start_of h) rs)))
@@ -138,31 +128,21 @@ snapshots_cost_from sc old more new le most = by sc.header most
     by None m = later 0 m
     by (Some h) m = λ tried k. later (snapshots_most h.what tried) (m tried k)
 
--- if nothing of more fails, nothing of these does
-nothing_stays : (sc wider : InputScan) → Widens sc wider →
-    NothingFails wider.header wider.records → NothingFails sc.header sc.records
-nothing_stays sc wider w none = by sc.header refl
+-- if the start of a longer input is good, so is that of this one
+good_start : (sc wider : InputScan) → Widens sc wider → HasGoodStart wider.header →
+    HasGoodStart sc.header
+good_start sc wider w good = by sc.header refl
   where
-    of_header : (o : Option (Lined Header)) (h : Lined Header) → o ≡ Some h →
-        NothingFails o wider.records → NothingFails (Some h) wider.records
-    of_header o h is k =
-        subst (λ (p : Option (Lined Header)). NothingFails p wider.records) is k
-
-    by : (o : Option (Lined Header)) → sc.header ≡ o → NothingFails o sc.records
+    by : (o : Option (Lined Header)) → sc.header ≡ o → HasGoodStart o
     by None there = tt
     by (Some h) there =
-        let here = of_header wider.header h (w.header h there) none in (
-          here.0,
-          subst (λ (o : Option (Lined Header)). NoneFails o sc.records) there
-              (none_stays sc wider w
-              (subst (λ (o : Option (Lined Header)). NoneFails o wider.records)
-              (sym (w.header h there)) here.1)),
-        )
+        subst (λ (o : Option (Lined Header)). HasGoodStart o) (w.header h there) good
 
-judged_widens : (sc wider : InputScan) (old new : ℕ) → Widens sc wider →
+pub optimistic_widens : (sc wider : InputScan) (old new : ℕ) → Widens sc wider →
     OptimisticCostAtMost sc old new → OptimisticCostAtMost wider old new
-judged_widens sc wider old new w cost = (
-  λ none. most_widens sc wider old new w (cost.0 (nothing_stays sc wider w none)),
+optimistic_widens sc wider old new w cost = (
+  λ good none. most_widens sc wider old new w
+      (cost.0 (good_start sc wider w good) (none_stays sc wider w none)),
   snapshots_cost_from wider (old + search_most sc.records) (old + search_most wider.records) new
       (grows (length sc.records) (length wider.records) (length w.records.0)
       (ap (λ (rs : Records (RunRecord Op)). length rs) w.records.1
@@ -173,8 +153,8 @@ judged_widens sc wider old new w cost = (
     grows : (a b more : ℕ) → b ≡ a + more → old + (a + 256) ≤ old + (b + 256)
     grows a b more e = omega (arith, e)
 
-nothing_judged : (old : ℕ) → OptimisticCostAtMost nothing old old
-nothing_judged old = (λ none. same_count old, from old (search_most []))
+pub optimistic_first : (old : ℕ) → OptimisticCostAtMost nothing old old
+optimistic_first old = (λ good none. same_count old, from old (search_most []))
   where
     same_count : (n : ℕ) → n ≤ n + 0
     same_count n = omega arith
@@ -184,24 +164,11 @@ nothing_judged old = (λ none. same_count old, from old (search_most []))
 
 -- ---- the laws
 
-pub optimistic_laws : JudgingLaws optimistic_judging
+pub optimistic_laws : EngineLaws optimistic_engine
 optimistic_laws = record {
-  not_both = λ h rs judge rejection good bad. none_fails h rs rejection.line
-      (all_meet h.what rs judge good) bad.1;
-  one_fault = λ sc f g is same. sym is ∙ same;
-  first_fault = λ fault. refl;
-  good_fault = λ h rs judge fault good. optimistic_fault
-      (record (scan_of h rs) { fault = fault }) h refl good.style;
-  rejected_fault = λ h rs rejection fault bad. optimistic_fault
-      (record (scan_of h rs) { fault = fault }) h refl bad.0;
-  fault_stays = style_fault_stays is_optimistic StyleNotJudged;
-  rejection_stays = λ h rs more rejection bad. (
-    bad.0,
-    fails_stay h rs more rejection.line bad.1,
-    rejected_stays h rs more rejection bad.2,
-  );
-  first_most = nothing_judged;
-  most_widens = judged_widens;
-  rejected_least_stays = λ h rs more rejection old new bad least. passed_least h rs more
-      rejection.line old new bad.1 least;
+  judged = refl;
+  style = λ h rs snapshots good. good.style;
+  hold = all_meet;
+  good = λ h rs judge c. c;
+  own_good = λ h rs judge c. c;
 }

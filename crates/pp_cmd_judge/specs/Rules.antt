@@ -1,53 +1,64 @@
--- Proof machinery: what the machine says of runs of style rules as a judge.
-use Rattle.std.specs.Prelude.{◌≡◌, Bool, true, false, length}
-use Rattle.pp_core.specs.declared.call.Style.{Style}
+-- Proof machinery: what the machine says of runs of style rules, as their engine.
+use Rattle.std.specs.Prelude.{◌≡◌, ℕ, suc, Bool, true, false, List, length, None, Some}
+use Rattle.pp_core.specs.Steps.{Step}
+use Rattle.pp_core.specs.declared.call.Kind.{Kind}
 use Rattle.pp_core.specs.declared.call.Style.TheVariants as styles
-use Rattle.pp_core.specs.declared.status.Status.TheVariants as statuses
-use Rattle.pp_records.specs.Records.{RunRecord}
+use Rattle.pp_kind.specs.Object.{rules_of}
+use Rattle.pp_machine.specs.Evidence.{evidence}
+use Rattle.pp_machine.specs.Machines.{Seen}
+use Rattle.pp_machine.specs.declared.machine.Outcome.{Outcome}
+use Rattle.pp_machine.specs.declared.machine.Outcome.TheVariants.{Done, False}
+use Rattle.pp_model.specs.Config.{after}
+use Rattle.pp_model.specs.Rules.{Breaks}
+use Rattle.pp_records.specs.Records.{Plain, RunRecord}
 use Rattle.pp_records.specs.Runs.{Records, bare}
 use Rattle.pp_format_read.specs.declared.header.Header.{Header}
-use Rattle.pp_model.specs.Config.{after}
-use Rattle.pp_objects.specs.Objects.{kinds_of}
+use Rattle.pp_objects.specs.Objects.{kinds_of, objects}
 use Rattle.pp_objects.specs.declared.act.Op.{Op}
-use Rattle.pp_input_reader.specs.declared.cause.Cause.TheVariants.{StyleNotJudged}
-use Rattle.pp_judge.specs.Costs.{StepsCostAtLeast}
-use Rattle.pp_judge.specs.Judging.{Judging}
 use Rattle.pp_judge.specs.Objects.{start_of}
-use Rattle.pp_judge.specs.declared.driven.Rejection.{Rejection}
-use Rattle.pp_cmd_quick.specs.Decisions.{AllHold, steps_behind, style_fault}
-use Rattle.pp_cmd_judge.specs.Inputs.{judge_limits}
-use Rattle.pp_cmd_judge.specs.Rejections.{IsRejectedBehind}
-use Rattle.pp_cmd_judge.specs.RulesCosts.{AllCostAtMost}
+use Rattle.pp_cmd_quick.specs.Decisions.{AllHold, steps_behind}
+use Rattle.pp_cmd_judge.specs.Engines.{EngineOf}
 use Rattle.pp_cmd_judge.specs.declared.rules.RuleMachine.{RuleMachine}
-
--- the style in which each record is a step
-abbrev pub is_rules : Style → Bool
-is_rules styles.Rules = true
-is_rules styles.Boosted = false
-is_rules styles.Optimistic = false
-is_rules styles.Hardware = false
-is_rules styles.Dependent = false
+use Rattle.pp_cmd_judge.specs.declared.style_judge.StyleJudge.TheVariants.{Rules}
 
 -- The start and each step of the records after a header meet their criteria, there are as many
 -- steps as records, and this is the machine after them.
 pub record AreDoneBehind (header : Header) (records : Records (RunRecord Op))
-    (judge : RuleMachine) : Type 0 where
+    (engine : RuleMachine) : Type 0 where
   pub style : header.style ≡ styles.Rules
-  pub shape : judge.machine.shape ≡ kinds_of header.catalog
+  pub shape : engine.machine.shape ≡ kinds_of header.catalog
   pub hold : AllHold header records
-  pub config : judge.machine.config ≡ after (start_of header) (bare (steps_behind header records))
-  pub count : judge.machine.count ≡ length records
+  pub config : engine.machine.config
+      ≡ after (start_of header) (bare (steps_behind header records))
+  pub count : engine.machine.count ≡ length records
   pub steps : length (steps_behind header records) ≡ length records
 
--- A record is good if its step meets its criteria. A rejection is of the first step that does not.
-abbrev pub rules_judging : Judging RuleMachine Rejection
-rules_judging = record {
-  limits = judge_limits;
-  IsGood = λ header records judge. AreDoneBehind header.what records judge;
-  IsRejectedBy = λ header records rejection. (header.what.style ≡ styles.Rules)
-      × IsRejectedBehind header records rejection;
-  IsFault = λ sc fault. style_fault is_rules StyleNotJudged sc.header sc.fault ≡ fault;
-  AtMost = AllCostAtMost;
-  GoodAtLeast = StepsCostAtLeast statuses.Accepted;
-  RejectedAtLeast = StepsCostAtLeast statuses.Rejected;
+-- the machine after a step with this outcome, and whether the step meets its criteria
+abbrev pub engine_after : Seen (List Kind) Op → Outcome Op → RuleMachine × Bool
+engine_after machine Done = (record { machine = machine; broken = None }, true)
+engine_after machine (False n detail) =
+    (record { machine = machine; broken = Some (record { criterion = n; detail = detail }) }, false)
+
+-- The record is a step, and the engine keeps which criterion of it is the first that is violated,
+-- with the evidence.
+pub record IsBroken (engine : RuleMachine) (r : RunRecord Op) : Type 0 where
+  pub step : Step Op
+  pub is : r ≡ Plain step
+  pub number : ℕ
+  pub breaks : Breaks (rules_of objects engine.machine.shape) engine.machine.config step
+      (suc number)
+  pub kept : engine.broken ≡ Some (record {
+    criterion = suc number;
+    detail = evidence objects engine.machine.shape engine.machine.config step (suc number);
+  })
+
+abbrev pub rules_engine : EngineOf RuleMachine
+rules_engine = record {
+  style = styles.Rules;
+  AreGood = AreDoneBehind;
+  IsRefused = IsBroken;
+  search = λ engine. 0;
+  done = λ engine. engine.machine.config.done;
+  shape = λ engine. engine.machine.shape;
+  wrap = λ judge. Rules judge;
 }

@@ -1,36 +1,30 @@
--- Proof machinery: the laws of the machine as a judge of runs of style rules.
-use Rattle.std.specs.Prelude.{◌≡◌, ◌≤◌, ◌+◌, ℕ, suc, List, [], ◌++◌, Option, None, Some}
+-- Proof machinery: the laws of the machine as the engine of runs of style rules, and of what it costs.
+use Rattle.std.specs.Prelude.{◌≡◌, ◌≤◌, ◌+◌, ℕ, List, [], ◌++◌, Option, None, Some}
 use Rattle.std.proofs.Common.{refl, sym, ap, ◌∙◌, subst, arith}
 use Rattle.std.proofs.lemmas.List.{append-nil}
 use Rattle.pp_core.specs.Steps.{Step}
-use Rattle.pp_core.specs.declared.call.Style.{Style}
-use Rattle.pp_core.specs.declared.call.Style.TheVariants.{Rules}
 use Rattle.pp_records.specs.Inputs.{Widens}
 use Rattle.pp_records.specs.Records.{RunRecord}
 use Rattle.pp_records.specs.Runs.{IsRun, Lined, LinedSteps, Records, bare}
 use Rattle.pp_records.proofs.Ends.{bare_append}
 use Rattle.pp_records.proofs.Whole.{one_run_law}
 use Rattle.pp_format_read.specs.declared.header.Header.{Header}
-use Rattle.pp_model.proofs.Verdict.{accepted_iff, one_verdict}
-use Rattle.pp_model.specs.Config.{Config, but_last, first}
-use Rattle.pp_model.specs.Rules.{Accepted, IsVerdict, Rejected}
+use Rattle.pp_model.proofs.Verdict.{accepted_iff}
+use Rattle.pp_model.specs.Config.{Config, first}
+use Rattle.pp_model.specs.Rules.{Accepted, IsVerdict}
 use Rattle.pp_objects.specs.Objects.{place_of}
 use Rattle.pp_objects.specs.declared.act.Op.{Op}
-use Rattle.pp_styles.specs.Costs.{most_ticks, singles}
+use Rattle.pp_styles.specs.Costs.{most_ticks}
 use Rattle.pp_styles.proofs.Driven.{most_append}
-use Rattle.pp_input_reader.specs.declared.cause.Cause.{Cause}
-use Rattle.pp_input_reader.specs.declared.cause.Cause.TheVariants.{StyleNotJudged}
 use Rattle.pp_judge.specs.Costs.{OfRun, start_at_most, start_behind}
-use Rattle.pp_judge.specs.Judging.{JudgingLaws}
 use Rattle.pp_judge.specs.Objects.{object_of, start_of, translation_of}
 use Rattle.pp_judge.specs.Scans.{InputScan, nothing}
-use Rattle.pp_judge.specs.Tallies.{scan_of}
 use Rattle.pp_judge.specs.declared.driven.Rejection.{Rejection}
 use Rattle.pp_judge.specs.laws.Driven.{add_le, nothing_less, run_front, up_more}
 use Rattle.pp_cmd_quick.specs.Decisions.{AllHold, steps_behind}
-use Rattle.pp_cmd_quick.specs.DeciderLaws.{style_fault_stays, taken_fault}
-use Rattle.pp_cmd_judge.specs.Rejections.{IsRejectedBehind, rejected_stays}
-use Rattle.pp_cmd_judge.specs.Rules.{is_rules, rules_judging}
+use Rattle.pp_cmd_judge.specs.Rejections.{IsRejectedBehind}
+use Rattle.pp_cmd_judge.specs.EngineLaws.{EngineLaws}
+use Rattle.pp_cmd_judge.specs.Rules.{rules_engine}
 use Rattle.pp_cmd_judge.specs.RulesCosts.{AllCostAtMost, all_at_most}
 
 -- ---- the verdict
@@ -52,19 +46,6 @@ module _ (h : Lined Header) (rs : Records (RunRecord Op)) (rejection : Rejection
   pub rejected_run : IsRun (object_of h.what) (translation_of h.what) (start_of h.what) rs e.run
   rejected_run = subst (λ (w : Records (RunRecord Op)). IsRun (object_of h.what)
       (translation_of h.what) (start_of h.what) w e.run) (append-nil rs) (e.stays [])
-
-  -- records that are good are not rejected
-  pub none_hold : AllHold h.what rs → ⊥
-  none_hold hold =
-      let O = object_of h.what in
-      let s = start_of h.what in
-      let all = bare (steps_behind h.what rs) in
-      let bad : IsVerdict O s all (Rejected e.number (suc e.criterion)) =
-      ((one_run_law O (translation_of h.what)).verdict s rs e.run
-      (Rejected e.number (suc e.criterion)) rejected_run).0 e.verdict in
-      let is : Accepted ≡ Rejected e.number (suc e.criterion) = one_verdict O s all Accepted
-      (Rejected e.number (suc e.criterion)) (all_accepted h.what rs hold) bad in
-      cc
 
   -- if P is true of the steps of the run, it is true of the steps of the run with more records
   pub rejected_behind : (P : List (Step Op) → Type 0) (more : Records (RunRecord Op)) →
@@ -125,27 +106,13 @@ nothing_all old = λ run is. still old (all_at_most None (bare run))
     still : (n k : ℕ) → n ≤ n + k
     still n k = omega arith
 
--- ---- the fault
-
--- in style rules the fault is that of the scan
-pub rules_fault : (h : Lined Header) (rs : Records (RunRecord Op)) (fault : Option (ℕ × Cause)) →
-    h.what.style ≡ Rules → rules_judging.IsFault (record (scan_of h rs) { fault = fault }) fault
-rules_fault h rs fault is = taken_fault is_rules StyleNotJudged
-    (record (scan_of h rs) { fault = fault }) h refl (ap (λ (s : Style). is_rules s) is)
-
 -- ---- the laws
 
-pub rules_laws : JudgingLaws rules_judging
+pub rules_laws : EngineLaws rules_engine
 rules_laws = record {
-  not_both = λ h rs judge rejection good bad. none_hold h rs rejection bad.1 good.hold;
-  one_fault = λ sc f g is same. sym is ∙ same;
-  first_fault = λ fault. refl;
-  good_fault = λ h rs judge fault good. rules_fault h rs fault good.style;
-  rejected_fault = λ h rs rejection fault bad. rules_fault h rs fault bad.0;
-  fault_stays = style_fault_stays is_rules StyleNotJudged;
-  rejection_stays = λ h rs more rejection bad. (bad.0, rejected_stays h rs more rejection bad.1);
-  first_most = nothing_all;
-  most_widens = all_widens;
-  rejected_least_stays = λ h rs more rejection old new bad least. rejected_behind h rs rejection
-      bad.1 (λ steps. old + singles (but_last steps) ≤ new) more least;
+  judged = refl;
+  style = λ h rs engine good. good.style;
+  hold = λ h rs engine good. good.hold;
+  good = λ h rs judge c. c;
+  own_good = λ h rs judge c. c;
 }

@@ -4,11 +4,13 @@
 
 mod boosted;
 mod command;
+mod engine;
 mod law;
 mod limits;
 mod optimistic;
 mod rejection;
 mod rules;
+mod run_judge;
 mod style_judge;
 
 pub use command::judge;

@@ -1,37 +1,30 @@
-//! The machine as the judge of a run of style `rules`, each record of which is one step of it.
+//! The machine, as the engine of style `rules`, each record of which is one step of it.
 ghost use Rattle.std.specs.Prelude.{◌≡◌};
 ghost use Rattle.pp_core.specs.Steps.{meaning};
 ghost use Rattle.pp_core.specs.declared.call.Style.TheVariants as styles;
 ghost use Rattle.pp_records.specs.Expansions.{IsOfStyle};
 ghost use Rattle.pp_records.specs.Records.{Plain, record_meaning};
-ghost use Rattle.pp_cmd_judge.specs.Rules.{is_rules};
+ghost use Rattle.pp_cmd_judge.specs.Rules.{engine_after};
 
-use crate::limits::judge_limits;
-use pp_core::{Rule, Step, Style, Ticks, rule_of};
+use crate::engine::Engine;
+use crate::run_judge::RunJudge;
+use crate::style_judge::StyleJudge;
+use pp_core::{Committed, OutOfMemory, Step, Ticks, rule_of};
 use pp_format_read::Header;
-use pp_input::Limits;
-use pp_input_reader::{Cause, Stop};
-use pp_judge::{Judge, Judged, Rejection, start_machine};
+use pp_judge::start_machine;
 use pp_machine::{Machine, Outcome};
 use pp_objects::{Objects, Op};
 use pp_records::RunRecord;
+use pp_violations::{Broken, Violation, at_step};
 use std::alloc::Global;
 use std::sync::ledger::Ledger;
 
-/// The machine after the start and the steps of a run of style `rules`.
+/// The machine after the start and the steps of a run of style `rules`, and what criterion the last
+/// step violates, if it does.
 #[derive(Drop)]
 pub(crate) struct RuleMachine {
     pub(crate) machine: Machine<Objects>,
-}
-
-/// Whether a style is `rules`.
-fn is_rules(style: Style) -> bool
-    ensures { result ≡ is_rules style }
-{
-    match style {
-        Style::Rules => true,
-        Style::Boosted | Style::Optimistic | Style::Hardware | Style::Dependent => false,
-    }
+    pub(crate) broken: Option<Broken<Op>>,
 }
 
 /// The step that a record of style `rules` is.
@@ -45,61 +38,75 @@ fn step_of(recorded: &RunRecord<Op>) -> &Step<Op>
     step
 }
 
-impl Judge for RuleMachine {
-    ghost use Rattle.pp_cmd_judge.specs.Rules.{rules_judging};
+/// The machine after a step with this outcome, and whether the step meets its criteria.
+fn engine_after(machine: Machine<Objects>, outcome: Outcome<Op>) -> (RuleMachine, bool)
+    ensures { result ≡ engine_after machine outcome }
+{
+    match outcome {
+        Outcome::Done => {
+            let broken = None;
+            (RuleMachine { machine, broken }, true)
+        }
+        Outcome::False { criterion, detail } => {
+            let broken = Some(Broken { criterion, detail });
+            (RuleMachine { machine, broken }, false)
+        }
+    }
+}
+
+impl Engine for RuleMachine {
+    ghost use Rattle.pp_cmd_judge.specs.Rules.{rules_engine};
     ghost use Rattle.pp_cmd_judge.specs.RulesLaws.{rules_laws};
 
-    type Rejection = Rejection;
+    ghost engine = { rules_engine };
 
-    ghost judging = { rules_judging };
-
-    fn limits() -> Limits {
-        judge_limits()
-    }
-
-    fn begin<L: Ledger>(
+    fn start<L: Ledger>(
         alloc: Global,
         header: &Header,
-        line: u32,
         ticks: &mut Ticks<L>,
-    ) -> Result<Judged<RuleMachine, Rejection>, Stop<Cause>> {
-        if !is_rules(header.style) {
-            return Err(Stop::Fault(line, Cause::StyleNotJudged));
-        }
+    ) -> Result<(RuleMachine, bool), OutOfMemory> {
         let (machine, outcome) = start_machine(alloc, header, ticks)?;
-        match outcome {
-            Outcome::Done => Ok(Judged::Good(RuleMachine { machine })),
-            Outcome::False { criterion, detail } => Ok(Judged::Rejected(Rejection {
-                step: 0,
-                line,
-                rule: Rule::Start,
-                criterion,
-                detail,
-            })),
-        }
+        Ok(engine_after(machine, outcome))
     }
 
-    fn judge<L: Ledger>(
+    fn count_steps(&self, _recorded: &RunRecord<Op>) -> u64 {
+        1
+    }
+
+    fn take_record<L: Ledger>(
+        self,
+        recorded: &RunRecord<Op>,
+        ticks: &mut Ticks<L>,
+    ) -> Result<(RuleMachine, bool), OutOfMemory> {
+        let step = step_of(recorded);
+        let RuleMachine { machine, .. } = self;
+        let (machine, outcome) = machine.step(step, ticks)?;
+        Ok(engine_after(machine, outcome))
+    }
+
+    fn find_step<L: Ledger>(
         self,
         _alloc: Global,
-        _header: &Header,
         recorded: &RunRecord<Op>,
-        line: u32,
-        ticks: &mut Ticks<L>,
-    ) -> Result<Judged<RuleMachine, Rejection>, Stop<Cause>> {
-        let step = step_of(recorded);
-        let RuleMachine { machine } = self;
-        let (machine, outcome) = machine.step(step, ticks)?;
-        match outcome {
-            Outcome::Done => Ok(Judged::Good(RuleMachine { machine })),
-            Outcome::False { criterion, detail } => Ok(Judged::Rejected(Rejection {
-                step: u64::from(machine.count()) + 1,
-                line,
-                rule: rule_of(step),
-                criterion,
-                detail,
-            })),
-        }
+        _ticks: &mut Ticks<L>,
+    ) -> Result<Violation<Op>, OutOfMemory> {
+        let RuleMachine { broken, .. } = self;
+        let Some(broken) = broken else { unreachable!() };
+        let rule = rule_of(step_of(recorded));
+        Ok(at_step(0, rule, broken))
+    }
+
+    fn commits(&self) -> &Committed<Op> {
+        // It is here for what its clauses say of the shared log, which has them all.
+        let _count = self.machine.count();
+        self.machine.committed()
+    }
+
+    fn wrap(self, steps: u64) -> StyleJudge {
+        StyleJudge::Rules(RunJudge {
+            engine: self,
+            steps,
+        })
     }
 
     ghost laws = { rules_laws };

@@ -4,29 +4,30 @@ ghost use Rattle.pp_kind.specs.Object.{AllRanged, IsAllowed};
 ghost use Rattle.pp_kind.specs.declared.range.TheConstants.{MOST_OPERATIONS};
 ghost use Rattle.pp_model.specs.Sound.{serial_ops};
 ghost use Rattle.pp_objects.specs.Objects.{objects};
-ghost use Rattle.pp_cmd_judge.specs.StyleJudging.{HasTaken, done_of, of_boosted, of_optimistic};
-ghost use Rattle.pp_cmd_judge.specs.StyleJudging.{of_rules, shape_of, step_count};
+ghost use Rattle.pp_cmd_judge.specs.StyleJudging.{HasTaken, done_of, shape_of, step_count};
 
-use crate::boosted::BoostedJudge;
+use crate::engine::Engine;
 use crate::limits::judge_limits;
-use crate::optimistic::OptimisticJudge;
 use crate::rules::RuleMachine;
+use crate::run_judge::RunJudge;
 use pp_core::{Committed, Style, Ticks};
 use pp_format_read::Header;
 use pp_input::Limits;
 use pp_input_reader::{Cause, Stop};
 use pp_judge::{Judge, Judged, Rejection};
-use pp_objects::Op;
+use pp_objects::{Objects, Op};
 use pp_records::RunRecord;
+use pp_snapshots::Snapshots;
+use pp_summary::Quick;
 use std::alloc::Global;
 use std::sync::ledger::Ledger;
 
 /// The judge of a run, by its style.
 #[derive(Drop)]
 pub(crate) enum StyleJudge {
-    Rules(RuleMachine),
-    Boosted(BoostedJudge),
-    Optimistic(OptimisticJudge),
+    Rules(RunJudge<RuleMachine>),
+    Boosted(RunJudge<Quick<Objects>>),
+    Optimistic(RunJudge<Snapshots<Objects>>),
 }
 
 impl StyleJudge {
@@ -35,7 +36,7 @@ impl StyleJudge {
         ensures { result ≡ step_count self.now }
     {
         match self {
-            StyleJudge::Rules(judge) => u64::from(judge.machine.count()),
+            StyleJudge::Rules(judge) => judge.steps,
             StyleJudge::Boosted(judge) => judge.steps,
             StyleJudge::Optimistic(judge) => judge.steps,
         }
@@ -51,44 +52,10 @@ impl StyleJudge {
         ensures few { length (serial_ops (done_of self.now)) < MOST_OPERATIONS }
     {
         match self {
-            StyleJudge::Rules(judge) => {
-                // It is here for what its clauses say of the shared log, which has them all.
-                let _count = judge.machine.count();
-                judge.machine.committed()
-            }
-            StyleJudge::Boosted(judge) => judge.quick.committed(),
-            StyleJudge::Optimistic(judge) => judge.snapshots.committed(),
+            StyleJudge::Rules(judge) => judge.engine.commits(),
+            StyleJudge::Boosted(judge) => judge.engine.commits(),
+            StyleJudge::Optimistic(judge) => judge.engine.commits(),
         }
-    }
-}
-
-/// What the judge of runs of style `rules` says, as the judge of all styles.
-fn of_rules(judged: Judged<RuleMachine, Rejection>) -> Judged<StyleJudge, Rejection>
-    ensures { result ≡ of_rules judged }
-{
-    match judged {
-        Judged::Good(judge) => Judged::Good(StyleJudge::Rules(judge)),
-        Judged::Rejected(rejection) => Judged::Rejected(rejection),
-    }
-}
-
-/// What the judge of boosted runs says, as the judge of all styles.
-fn of_boosted(judged: Judged<BoostedJudge, Rejection>) -> Judged<StyleJudge, Rejection>
-    ensures { result ≡ of_boosted judged }
-{
-    match judged {
-        Judged::Good(judge) => Judged::Good(StyleJudge::Boosted(judge)),
-        Judged::Rejected(rejection) => Judged::Rejected(rejection),
-    }
-}
-
-/// What the judge of optimistic runs says, as the judge of all styles.
-fn of_optimistic(judged: Judged<OptimisticJudge, Rejection>) -> Judged<StyleJudge, Rejection>
-    ensures { result ≡ of_optimistic judged }
-{
-    match judged {
-        Judged::Good(judge) => Judged::Good(StyleJudge::Optimistic(judge)),
-        Judged::Rejected(rejection) => Judged::Rejected(rejection),
     }
 }
 
@@ -111,19 +78,12 @@ impl Judge for StyleJudge {
         ticks: &mut Ticks<L>,
     ) -> Result<Judged<StyleJudge, Rejection>, Stop<Cause>> {
         match header.style {
-            Style::Rules => {
-                let judged = RuleMachine::begin(alloc, header, line, ticks)?;
-                Ok(of_rules(judged))
-            }
-            Style::Boosted => {
-                let judged = BoostedJudge::begin(alloc, header, line, ticks)?;
-                Ok(of_boosted(judged))
-            }
+            Style::Rules => Ok(RunJudge::<RuleMachine>::begin(alloc, header, line, ticks)?),
+            Style::Boosted => Ok(RunJudge::<Quick<Objects>>::begin(alloc, header, line, ticks)?),
             Style::Optimistic => {
-                let judged = OptimisticJudge::begin(alloc, header, line, ticks)?;
-                Ok(of_optimistic(judged))
+                Ok(RunJudge::<Snapshots<Objects>>::begin(alloc, header, line, ticks)?)
             }
-            Style::Hardware | Style::Dependent => { Err(Stop::Fault(line, Cause::StyleNotJudged)) }
+            Style::Hardware | Style::Dependent => Err(Stop::Fault(line, Cause::StyleNotJudged)),
         }
     }
 
@@ -136,18 +96,9 @@ impl Judge for StyleJudge {
         ticks: &mut Ticks<L>,
     ) -> Result<Judged<StyleJudge, Rejection>, Stop<Cause>> {
         match self {
-            StyleJudge::Rules(judge) => {
-                let judged = judge.judge(alloc, header, recorded, line, ticks)?;
-                Ok(of_rules(judged))
-            }
-            StyleJudge::Boosted(judge) => {
-                let judged = judge.judge(alloc, header, recorded, line, ticks)?;
-                Ok(of_boosted(judged))
-            }
-            StyleJudge::Optimistic(judge) => {
-                let judged = judge.judge(alloc, header, recorded, line, ticks)?;
-                Ok(of_optimistic(judged))
-            }
+            StyleJudge::Rules(judge) => Ok(judge.judge(alloc, header, recorded, line, ticks)?),
+            StyleJudge::Boosted(judge) => Ok(judge.judge(alloc, header, recorded, line, ticks)?),
+            StyleJudge::Optimistic(judge) => Ok(judge.judge(alloc, header, recorded, line, ticks)?),
         }
     }
 

@@ -26,8 +26,8 @@ tried_most header tried =
 
 -- Tried are the records after a header, up to the first that is not good, and that one. If all are
 -- good, all are tried.
-abbrev pub AreTriedBehind : Header → Records (RunRecord Op) → List (RunRecord Op) → Type 0
-AreTriedBehind header records tried =
+abbrev pub AreTriedAfter : Header → Records (RunRecord Op) → List (RunRecord Op) → Type 0
+AreTriedAfter header records tried =
     AreTried (object_of header) place_of (first_brief header) (bare records) tried
 
 -- P is true of the most that the start and the tried records cost. There is exactly one list of
@@ -35,7 +35,7 @@ AreTriedBehind header records tried =
 abbrev pub OfTried : Option (Lined Header) → Records (RunRecord Op) → (ℕ → Type 0) → Type 0
 OfTried None records P = P 0
 OfTried (Some header) records P = (tried : List (RunRecord Op)) →
-    AreTriedBehind header.what records tried → P (tried_most header.what tried)
+    AreTriedAfter header.what records tried → P (tried_most header.what tried)
 
 -- The counter rises at most by this, without the serial run.
 abbrev pub RecordsCostAtMost : InputScan → (old new : ℕ) → Type 0

@@ -24,7 +24,7 @@ use Rattle.pp_judge.specs.Scans.{InputScan}
 use Rattle.pp_cmd_focus.specs.Outputs.{IsFocusStatus, focus_fault}
 use Rattle.pp_cmd_judge.specs.Inputs.{judge_scan}
 use Rattle.pp_cmd_opaque.specs.Meanings.{IsFirstZombie}
-use Rattle.pp_cmd_quick.specs.Costs.{AreTriedBehind}
+use Rattle.pp_cmd_quick.specs.Costs.{AreTriedAfter}
 use Rattle.pp_cmd_quick.specs.Decisions.{Decision, IsDecision, IsDecisionOf, IsVerdictBehind}
 use Rattle.pp_cmd_quick.specs.Laws.{IsSameDecision, TellsVerdict}
 
@@ -49,9 +49,9 @@ pub record IsDecidedAsRun (sc : InputScan) (header : Lined Header) : Type 0 wher
       IsVerdictBehind header.what sc.records v → TellsVerdict header sc.records v decision
   -- The costs of exactly one list of records are summed. It is impossible that there is none.
   pub some_tried : ((tried : List (RunRecord Op)) →
-      AreTriedBehind header.what sc.records tried → ⊥) → ⊥
-  pub one_tried : (a b : List (RunRecord Op)) → AreTriedBehind header.what sc.records a →
-      AreTriedBehind header.what sc.records b → a ≡ b
+      AreTriedAfter header.what sc.records tried → ⊥) → ⊥
+  pub one_tried : (a b : List (RunRecord Op)) → AreTriedAfter header.what sc.records a →
+      AreTriedAfter header.what sc.records b → a ≡ b
   -- `certify` reports the same, on the same line, unless it reports TooManySteps.
   pub agrees : (report : RunReport) (decision : Decision) → header.what.style ≡ Boosted →
       IsReport setting_of TooManySteps sc report → IsDecision sc decision →

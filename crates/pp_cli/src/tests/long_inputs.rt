@@ -55,6 +55,52 @@ pub(crate) const TOO_MANY_STEPS: &[Piece] = &[
     },
 ];
 
+/// 20,001 transactions that begin.
+const TOO_MANY_TRANSACTIONS: &[Piece] = &[
+    Piece {
+        parts: &[COUNTER],
+        times: 1,
+    },
+    Piece {
+        parts: &[br#"{"step":"begin","tx":"t"#, b"\",\"thread\":\"p1\"}\n"],
+        times: 20_001,
+    },
+];
+
+/// 200,001 empty lines after a header.
+const TOO_MANY_LINES: &[Piece] = &[
+    Piece {
+        parts: &[COUNTER],
+        times: 1,
+    },
+    Piece {
+        parts: &[b"\n"],
+        times: 200_001,
+    },
+];
+
+/// Runs past the limits of `certify` on transactions and lines, with what `judge` reports.
+pub(crate) const JUDGED: [Long; 2] = [
+    Long {
+        what: "a transaction more than certify takes",
+        input: TOO_MANY_TRANSACTIONS,
+        status: Status::Accepted,
+        report: &[Piece {
+            parts: &[b"accepted steps 20001 committed 0\nstate c 0\n"],
+            times: 1,
+        }],
+    },
+    Long {
+        what: "a line more than certify takes",
+        input: TOO_MANY_LINES,
+        status: Status::Accepted,
+        report: &[Piece {
+            parts: &[b"accepted steps 0 committed 0\nstate c 0\n"],
+            times: 1,
+        }],
+    },
+];
+
 pub(crate) const LONG: [Long; 11] = [
     Long {
         what: "an object too many",
@@ -134,16 +180,7 @@ pub(crate) const LONG: [Long; 11] = [
     },
     Long {
         what: "a transaction too many",
-        input: &[
-            Piece {
-                parts: &[COUNTER],
-                times: 1,
-            },
-            Piece {
-                parts: &[br#"{"step":"begin","tx":"t"#, b"\",\"thread\":\"p1\"}\n"],
-                times: 20_001,
-            },
-        ],
+        input: TOO_MANY_TRANSACTIONS,
         status: Status::InputFault,
         report: &[Piece {
             parts: &[b"fault line 20002 TooManyTransactions\n"],
@@ -182,16 +219,7 @@ pub(crate) const LONG: [Long; 11] = [
     },
     Long {
         what: "a line too many",
-        input: &[
-            Piece {
-                parts: &[COUNTER],
-                times: 1,
-            },
-            Piece {
-                parts: &[b"\n"],
-                times: 200_001,
-            },
-        ],
+        input: TOO_MANY_LINES,
         status: Status::InputFault,
         report: &[Piece {
             parts: &[b"fault line 200002 TooManyLines\n"],

@@ -1,0 +1,13 @@
+use Rattle.std.proofs.Common.{arith}
+use Rattle.pp_records.specs.Records.{record_meaning}
+use Rattle.pp_cmd_judge.proofs.BoostedJudging.{few, has_steps}
+use Rattle.pp_cmd_judge.proofs.boosted.QuickObjectsEngine.count_steps.Goals as goal
+
+pub steps-requires-clause-few : goal.steps-requires-clause-few
+steps-requires-clause-few c = let small = few c.args.self.now (record_meaning c.args.recorded.now) c.requires in omega (arith, small)
+
+pub returns-clause-count : goal.returns-clause-count
+returns-clause-count c = has_steps c.args.self.now (record_meaning c.args.recorded.now) c.steps.result c.steps.ensures.count
+
+pub returns-clause-bound : goal.returns-clause-bound
+returns-clause-bound c = let small = c.requires.few in let count = c.requires.good.read.count in omega (arith, small, count, c.steps.ensures.bound)
