@@ -1,4 +1,5 @@
--- Proof machinery: the laws of the machine as the engine of runs of style rules, and of what it costs.
+-- Proof machinery: the laws of the machine as the engine of runs of style rules, and of what it
+-- costs.
 use Rattle.std.specs.Prelude.{◌≡◌, ◌≤◌, ◌+◌, ℕ, List, [], ◌++◌, Option, None, Some}
 use Rattle.std.proofs.Common.{refl, sym, ap, ◌∙◌, subst, arith}
 use Rattle.std.proofs.lemmas.List.{append-nil}
