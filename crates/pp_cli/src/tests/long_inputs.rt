@@ -55,18 +55,6 @@ pub(crate) const TOO_MANY_STEPS: &[Piece] = &[
     },
 ];
 
-/// 20,001 transactions that begin.
-const TOO_MANY_TRANSACTIONS: &[Piece] = &[
-    Piece {
-        parts: &[COUNTER],
-        times: 1,
-    },
-    Piece {
-        parts: &[br#"{"step":"begin","tx":"t"#, b"\",\"thread\":\"p1\"}\n"],
-        times: 20_001,
-    },
-];
-
 /// 200,001 empty lines after a header.
 const TOO_MANY_LINES: &[Piece] = &[
     Piece {
@@ -83,10 +71,23 @@ const TOO_MANY_LINES: &[Piece] = &[
 pub(crate) const JUDGED: [Long; 2] = [
     Long {
         what: "a transaction more than certify takes",
-        input: TOO_MANY_TRANSACTIONS,
+        input: &[
+            Piece {
+                parts: &[COUNTER],
+                times: 1,
+            },
+            Piece {
+                parts: &[
+                    br#"{"step":"begin","tx":"t"#,
+                    b"\",\"thread\":\"p1\"}\n{\"step\":\"quit\",\"tx\":\"t",
+                    b"\"}\n",
+                ],
+                times: 20_001,
+            },
+        ],
         status: Status::Accepted,
         report: &[Piece {
-            parts: &[b"accepted steps 20001 committed 0\nstate c 0\n"],
+            parts: &[b"accepted steps 40002 committed 0\nstate c 0\n"],
             times: 1,
         }],
     },
@@ -180,7 +181,16 @@ pub(crate) const LONG: [Long; 11] = [
     },
     Long {
         what: "a transaction too many",
-        input: TOO_MANY_TRANSACTIONS,
+        input: &[
+            Piece {
+                parts: &[COUNTER],
+                times: 1,
+            },
+            Piece {
+                parts: &[br#"{"step":"begin","tx":"t"#, b"\",\"thread\":\"p1\"}\n"],
+                times: 20_001,
+            },
+        ],
         status: Status::InputFault,
         report: &[Piece {
             parts: &[b"fault line 20002 TooManyTransactions\n"],
