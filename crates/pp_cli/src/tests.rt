@@ -23,7 +23,7 @@ mod styled_runs;
 mod walks;
 
 use crate::tests::accepted_runs::ACCEPTED;
-use crate::tests::commands::COMMANDS;
+use crate::tests::commands::{COMMANDS, OPAQUE};
 use crate::tests::expanded_runs::{EXPANDED, OLD_READ};
 use crate::tests::faulty_inputs::FAULTY;
 use crate::tests::given_words::GivenWords;
@@ -166,10 +166,12 @@ fn runs_have_their_reports(rt: HostRuntime) -> Result<(), Fail> {
 #[test]
 fn commands_have_their_outputs(rt: HostRuntime) -> Result<(), Fail> {
     let alloc = rt.alloc();
-    for command in &COMMANDS {
-        let row = &command.row;
-        let answer = answered_bytes(alloc, command.command, input_of(alloc, row)?, true)?;
-        assert_answer(&rt, row.what, &answer, row.status, row.report);
+    for table in [COMMANDS.as_slice(), OPAQUE.as_slice()] {
+        for command in table {
+            let row = &command.row;
+            let answer = answered_bytes(alloc, command.command, input_of(alloc, row)?, true)?;
+            assert_answer(&rt, row.what, &answer, row.status, row.report);
+        }
     }
     Ok(())
 }

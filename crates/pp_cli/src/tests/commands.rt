@@ -8,7 +8,7 @@ pub(crate) struct CommandRow {
     pub(crate) row: Row,
 }
 
-pub(crate) const COMMANDS: [CommandRow; 23] = [
+pub(crate) const COMMANDS: [CommandRow; 20] = [
     CommandRow {
         command: b"swaps",
         row: Row {
@@ -130,58 +130,6 @@ pub(crate) const COMMANDS: [CommandRow; 23] = [
 "#,
             status: Status::Accepted,
             report: b"accepted steps 8 committed 0\nview t1 ops 1 after 0\nview t2 ops 1 after none\n",
-        },
-    },
-    CommandRow {
-        command: b"opaque",
-        row: Row {
-            what: "a call that sees what was committed beside it",
-            header: b"",
-            records: br#"{"run":1,"style":"boosted","objects":[{"name":"s","kind":"set"}]}
-{"step":"begin","tx":"t1","thread":"p1"}
-{"step":"op","tx":"t1","id":1,"on":"s","call":"add","args":[5],"result":true}
-{"step":"begin","tx":"t2","thread":"p2"}
-{"step":"op","tx":"t2","id":2,"on":"s","call":"add","args":[7],"result":true}
-{"step":"commit","tx":"t2"}
-{"step":"op","tx":"t1","id":3,"on":"s","call":"contains","args":[7],"result":true}
-{"step":"abort","tx":"t1"}
-"#,
-            status: Status::Accepted,
-            report: b"opaque steps 16 committed 1\n",
-        },
-    },
-    CommandRow {
-        command: b"opaque",
-        row: Row {
-            what: "a retried attempt that sees an old and a new value",
-            header: b"",
-            records: br#"{"run":2,"style":"optimistic","objects":[{"name":"x","kind":"mem"},{"name":"y","kind":"mem"}],"start":{"tx":"t0","ops":[{"id":9,"on":"x","call":"write","args":[0,5],"result":null},{"id":10,"on":"y","call":"write","args":[0,5],"result":null}]}}
-
-{"step":"begin","tx":"t1","thread":"p1"}
-{"step":"op","tx":"t1","id":1,"on":"x","call":"read","args":[0],"result":5}
-{"step":"begin","tx":"t2","thread":"p2"}
-{"step":"op","tx":"t2","id":2,"on":"x","call":"write","args":[0,6],"result":null}
-{"step":"op","tx":"t2","id":3,"on":"y","call":"write","args":[0,6],"result":null}
-{"step":"retry","tx":"t1"}
-{"step":"op","tx":"t1","id":4,"on":"x","call":"read","args":[0],"result":5}
-{"step":"commit","tx":"t2"}
-{"step":"op","tx":"t1","id":5,"on":"y","call":"read","args":[0],"result":6}
-{"step":"retry","tx":"t1"}
-"#,
-            status: Status::Rejected,
-            report: b"zombie step 19 line 11\nview t1 ops 2 from 1 to 2\nop 4 x.read(0)=5\nop 5 y.read(0)=6\n",
-        },
-    },
-    CommandRow {
-        command: b"opaque",
-        row: Row {
-            what: "a wrong result",
-            header: COUNTER,
-            records: br#"{"step":"begin","tx":"t1","thread":"p1"}
-{"step":"app","tx":"t1","id":1,"on":"c","call":"get","args":[],"result":1}
-"#,
-            status: Status::Rejected,
-            report: b"rejected step 2 line 3 APP 4\nentry 1 gives 0\n",
         },
     },
     CommandRow {
@@ -404,6 +352,62 @@ pub(crate) const COMMANDS: [CommandRow; 23] = [
 "#,
             status: Status::InputFault,
             report: b"fault line 1 NotBoosted\n",
+        },
+    },
+];
+
+/// Runs with what `opaque` prints.
+pub(crate) const OPAQUE: [CommandRow; 3] = [
+    CommandRow {
+        command: b"opaque",
+        row: Row {
+            what: "a call that sees what was committed beside it",
+            header: b"",
+            records: br#"{"run":1,"style":"boosted","objects":[{"name":"s","kind":"set"}]}
+{"step":"begin","tx":"t1","thread":"p1"}
+{"step":"op","tx":"t1","id":1,"on":"s","call":"add","args":[5],"result":true}
+{"step":"begin","tx":"t2","thread":"p2"}
+{"step":"op","tx":"t2","id":2,"on":"s","call":"add","args":[7],"result":true}
+{"step":"commit","tx":"t2"}
+{"step":"op","tx":"t1","id":3,"on":"s","call":"contains","args":[7],"result":true}
+{"step":"abort","tx":"t1"}
+"#,
+            status: Status::Accepted,
+            report: b"opaque steps 16 committed 1\n",
+        },
+    },
+    CommandRow {
+        command: b"opaque",
+        row: Row {
+            what: "a retried attempt that sees an old and a new value",
+            header: b"",
+            records: br#"{"run":2,"style":"optimistic","objects":[{"name":"x","kind":"mem"},{"name":"y","kind":"mem"}],"start":{"tx":"t0","ops":[{"id":9,"on":"x","call":"write","args":[0,5],"result":null},{"id":10,"on":"y","call":"write","args":[0,5],"result":null}]}}
+
+{"step":"begin","tx":"t1","thread":"p1"}
+{"step":"op","tx":"t1","id":1,"on":"x","call":"read","args":[0],"result":5}
+{"step":"begin","tx":"t2","thread":"p2"}
+{"step":"op","tx":"t2","id":2,"on":"x","call":"write","args":[0,6],"result":null}
+{"step":"op","tx":"t2","id":3,"on":"y","call":"write","args":[0,6],"result":null}
+{"step":"retry","tx":"t1"}
+{"step":"op","tx":"t1","id":4,"on":"x","call":"read","args":[0],"result":5}
+{"step":"commit","tx":"t2"}
+{"step":"op","tx":"t1","id":5,"on":"y","call":"read","args":[0],"result":6}
+{"step":"retry","tx":"t1"}
+"#,
+            status: Status::Rejected,
+            report: b"zombie step 19 line 11\nview t1 ops 2 from 1 to 2\nop 4 x.read(0)=5\nop 5 y.read(0)=6\n",
+        },
+    },
+    CommandRow {
+        command: b"opaque",
+        row: Row {
+            what: "a wrong result",
+            header: COUNTER,
+            records: br#"{"step":"begin","tx":"t1","thread":"p1"}
+{"step":"app","tx":"t1","id":1,"on":"c","call":"get","args":[],"result":1}
+"#,
+            status: Status::Rejected,
+            report: b"rejected step 2 line 3 APP 4\nentry 1 gives 0\n",
         },
     },
 ];
