@@ -166,12 +166,21 @@ fn runs_have_their_reports(rt: HostRuntime) -> Result<(), Fail> {
 #[test]
 fn commands_have_their_outputs(rt: HostRuntime) -> Result<(), Fail> {
     let alloc = rt.alloc();
-    for table in [COMMANDS.as_slice(), OPAQUE.as_slice()] {
-        for command in table {
-            let row = &command.row;
-            let answer = answered_bytes(alloc, command.command, input_of(alloc, row)?, true)?;
-            assert_answer(&rt, row.what, &answer, row.status, row.report);
-        }
+    for command in &COMMANDS {
+        let row = &command.row;
+        let answer = answered_bytes(alloc, command.command, input_of(alloc, row)?, true)?;
+        assert_answer(&rt, row.what, &answer, row.status, row.report);
+    }
+    Ok(())
+}
+
+#[test]
+fn opaque_runs_and_zombies_have_their_outputs(rt: HostRuntime) -> Result<(), Fail> {
+    let alloc = rt.alloc();
+    for command in &OPAQUE {
+        let row = &command.row;
+        let answer = answered_bytes(alloc, command.command, input_of(alloc, row)?, true)?;
+        assert_answer(&rt, row.what, &answer, row.status, row.report);
     }
     Ok(())
 }
