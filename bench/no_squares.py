@@ -142,7 +142,7 @@ def withdrawn(count):
 
 
 def withdrawn_beside(count):
-    """The same, after another transaction has committed as many additions to another object."""
+    """`withdrawn`, after another transaction has committed as many additions to another object."""
     records, steps, committed = withdrawn(count)
     first = [begin("w", "pw")] + [op("w", 3 * count + number, "add", [1], on="o2") for number in range(count)] + [named("commit", "w")]
     return first + records, 1 + 2 * count + 1 + steps, committed + 1
