@@ -19,7 +19,7 @@ use Rattle.pp_model.proofs.Lists.{by_key, in_cases}
 use Rattle.pp_model.proofs.Logs.{found_tx}
 use Rattle.pp_model.proofs.Names.{eq-names, names-true}
 use Rattle.pp_styles.specs.Knowing.{IsAllBut, IsFollowedBut}
-use Rattle.pp_styles.specs.Publishing.{Adds, LooksFurther, PassesAt, Publications, TellsTrue}
+use Rattle.pp_styles.specs.Publishing.{Adds, LooksFurther, SkipsAt, Publications, TellsTrue}
 use Rattle.pp_styles.specs.Publishing.{Unpasses, ids_of, listed_more}
 use Rattle.pp_styles.specs.Noting.{kept_ids}
 use Rattle.std.specs.Map.{keys_of, lookup}
@@ -53,10 +53,10 @@ true_next P ids from at d is before i id above below here = elim (cases_lt i at)
 
 module _ {Op : Type 0} (l : List (LocalEntry Op)) (G : List (SharedEntry Op)) where
   -- an id needs no further look
-  abbrev pub Gone : ℕ → Type 0
-  Gone id = (stands_in l id ≡ true) ⊎ (position (λ (e : SharedEntry Op). e.id == id) G ≡ None)
+  abbrev pub NeedsNoLook : ℕ → Type 0
+  NeedsNoLook id = (stands_in l id ≡ true) ⊎ (position (λ (e : SharedEntry Op). e.id == id) G ≡ None)
 
-  not_gone : (g : SharedEntry Op) → In g G → stands_in l g.id ≡ false → Gone g.id → ⊥
+  not_gone : (g : SharedEntry Op) → In g G → stands_in l g.id ≡ false → NeedsNoLook g.id → ⊥
   not_gone g i off (inl there) = no (sym there ∙ off)
   not_gone g i off (inr none) =
       no (sym (eq-eqb g.id g.id refl) ∙ find_nowhere (λ (e : SharedEntry Op). e.id == g.id) G (place_none (λ (e : SharedEntry Op). e.id == g.id) G none) g i)
@@ -68,19 +68,19 @@ module _ {Op : Type 0} (l : List (LocalEntry Op)) (G : List (SharedEntry Op)) wh
 
   -- Ids that are gone are passed over, and then ids that need no further look.
   pub skips : (ids : List ℕ) (from gone least at : ℕ) → ((i id : ℕ) → gone ≤ i → i < least → slice_get ids i ≡ Some id → position (λ (e : SharedEntry Op). e.id == id) G ≡ None) →
-      ((i id : ℕ) → max from least ≤ i → i < at → slice_get ids i ≡ Some id → Gone id) → Adds l G ids gone from (drop at ids)
+      ((i id : ℕ) → max from least ≤ i → i < at → slice_get ids i ≡ Some id → NeedsNoLook id) → Adds l G ids gone from (drop at ids)
   skips ids from gone least at before after g i off there again =
       let beyond = skips_gone ids gone least before g i off there there in
       later_in ids (max from least) at g.id (in_drop_max ids from least g.id again beyond) (λ j above below here. not_gone g i off (after j g.id above below here))
 
   module _ (o : ℕ) (ids : Name → List ℕ) where
     -- Numbers that stay the same pass nothing more.
-    pub passes_same : (gone a : Name → ℕ → ℕ) → PassesAt l G o ids gone a a
+    pub passes_same : (gone a : Name → ℕ → ℕ) → SkipsAt l G o ids gone a a
     passes_same gone a v p = inl refl
 
     -- A number that is set for an owner passes only ids that are gone or need no further look.
     pub passes_set : (owner : Name) (at : ℕ) (gone a b : Name → ℕ → ℕ) → ((v : Name) (p : ℕ) → (b v p ≡ 0) ⊎ (b v p ≡ a v p) ⊎ (((v =ⁿ owner) ≡ true) × (p ≡ o) × (b v p ≡ at))) →
-        at ≤ length (ids owner) → Adds l G (ids owner) (gone owner o) (a owner o) (drop at (ids owner)) → PassesAt l G o ids gone a b
+        at ≤ length (ids owner) → Adds l G (ids owner) (gone owner o) (a owner o) (drop at (ids owner)) → SkipsAt l G o ids gone a b
     passes_set owner at gone a b each low adds v p = elim (each v p) [
       | inl none ↦ inr (inl none)
       | inr (inl same) ↦ inl same
@@ -93,7 +93,7 @@ module _ {Op : Type 0} (l : List (LocalEntry Op)) (G : List (SharedEntry Op)) wh
     ]
 
     -- what was neither gone nor passed is not passed, if it is missing
-    pub passes_in : (gone a b : Name → ℕ → ℕ) → PassesAt l G o ids gone a b → (v : Name) (p : ℕ) → Adds l G (ids v) (gone v p) (a v p) (drop (b v p) (ids v))
+    pub passes_in : (gone a b : Name → ℕ → ℕ) → SkipsAt l G o ids gone a b → (v : Name) (p : ℕ) → Adds l G (ids v) (gone v p) (a v p) (drop (b v p) (ids v))
     passes_in gone a b h v p g i off out there = elim (h v p) [
       | inl same ↦ subst (λ (n : ℕ). In g.id (drop n (ids v))) (sym same) there
       | inr (inl none) ↦ subst (λ (n : ℕ). In g.id (drop n (ids v))) (sym none) (in_from_drop (a v p) (ids v) g.id there)
@@ -101,13 +101,13 @@ module _ {Op : Type 0} (l : List (LocalEntry Op)) (G : List (SharedEntry Op)) wh
     ]
 
 -- of the entries of a shared log, with the ids that are gone
-module _ {Op : Type 0} (G : List (SharedEntry Op)) (o : ℕ) (ids : Name → List ℕ) (gone more : Name → ℕ → ℕ) (moved : PassesAt [] G o ids gone gone more) where
+module _ {Op : Type 0} (G : List (SharedEntry Op)) (o : ℕ) (ids : Name → List ℕ) (gone more : Name → ℕ → ℕ) (moved : SkipsAt [] G o ids gone gone more) where
   -- An id that was not gone is not gone yet, if its entry is there.
   pub not_gone_yet : (v : Name) (p : ℕ) (g : SharedEntry Op) → In g G → In g.id (drop (gone v p) (ids v)) → In g.id (drop (more v p) (ids v))
   not_gone_yet v p g i out = passes_in [] G o ids gone gone more moved v p g i refl out out
 
   -- Numbers that pass twice only what is gone or needs no further look do so together.
-  pub passes_on : (l : List (LocalEntry Op)) (a b c : Name → ℕ → ℕ) → PassesAt l G o ids gone a b → PassesAt l G o ids more b c → PassesAt l G o ids gone a c
+  pub passes_on : (l : List (LocalEntry Op)) (a b c : Name → ℕ → ℕ) → SkipsAt l G o ids gone a b → SkipsAt l G o ids more b c → SkipsAt l G o ids gone a c
   passes_on l a b c first second v p = elim (second v p) [
     | inl same ↦ elim (first v p) [
       | inl before ↦ inl (same ∙ before)
@@ -139,7 +139,7 @@ module _ {Op : Type 0} (l : List (LocalEntry Op)) (G : List (SharedEntry Op)) wh
 
   -- what is known of a transaction is taken out, goes further, and is put back
   pub looks_further : (t : Name) (o : ℕ) (p mid q : Publications) (a b : Name → ℕ → ℕ) (more : Name → ℕ → ℕ) → ((v : Name) (n : ℕ) → a v n ≡ p.passed t v n) → Unpasses t p mid →
-      PassesAt [] G o (λ v. mid.ids v o) mid.gone mid.gone more → PassesAt l G o (λ v. mid.ids v o) mid.gone a b → q.kept ≡ mid.kept → ((v : Name) (n : ℕ) → q.ids v n ≡ mid.ids v n) → ((v : Name) (n : ℕ) → q.gone v n ≡ more v n) →
+      SkipsAt [] G o (λ v. mid.ids v o) mid.gone mid.gone more → SkipsAt l G o (λ v. mid.ids v o) mid.gone a b → q.kept ≡ mid.kept → ((v : Name) (n : ℕ) → q.ids v n ≡ mid.ids v n) → ((v : Name) (n : ℕ) → q.gone v n ≡ more v n) →
       ((u v : Name) (n : ℕ) → (q.passed u v n ≡ mid.passed u v n) ⊎ (((u =ⁿ t) ≡ true) × (q.passed u v n ≡ b v n))) → LooksFurther t o l G p q
   looks_further t o p mid q a b more taken f moved further kept ids gone put =
       record {

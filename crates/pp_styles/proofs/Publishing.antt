@@ -23,7 +23,7 @@ use Rattle.pp_model.proofs.Names.{eq-names, names_tell}
 use Rattle.pp_model.proofs.Push.{stands_pushed}
 use Rattle.pp_model.proofs.Steps.{only_one, there_holds}
 use Rattle.pp_styles.specs.Knowing.{last_of}
-use Rattle.pp_styles.specs.Publishing.{AllListed, HasPassed, Keeps, ListsLast, ListsPushed, PassesBack, Publications}
+use Rattle.pp_styles.specs.Publishing.{AllListed, HasSkipped, Keeps, ListsLast, ListsPushed, PassesBack, Publications}
 use Rattle.pp_styles.specs.Publishing.{TellsTrue, Unpasses, UnpassesBefore, listed_more}
 use Rattle.pp_styles.proofs.Ids.{in_drop_left, in_drop_right, last_there, lower_in, not_shorter, not_with}
 use Rattle.pp_styles.proofs.Ids.{stands_marked, stands_without, unapplied_entry}
@@ -92,7 +92,7 @@ module _ {Op : Type 0} (place : Op → ℕ) where
         (subst (λ (v : Name). In h.id (drop (n v (place g.op)) (p.ids v (place g.op)))) same_owner
         (subst (λ (op : Op). In h.id (drop (n h.owner (place op)) (p.ids h.owner (place op)))) same_op i))
 
-    onward : (G H : List (SharedEntry Op)) (n : Name → ℕ → ℕ) (l m : List (LocalEntry Op)) → Comes H G → ((i : ℕ) → stands_in m i ≡ false → stands_in l i ≡ false) → HasPassed place p n G l → HasPassed place p n H m
+    onward : (G H : List (SharedEntry Op)) (n : Name → ℕ → ℕ) (l m : List (LocalEntry Op)) → Comes H G → ((i : ℕ) → stands_in m i ≡ false → stands_in l i ≡ false) → HasSkipped place p n G l → HasSkipped place p n H m
     onward G H n l m comes less h =
         record {
           within = h.within;
@@ -107,7 +107,7 @@ module _ {Op : Type 0} (place : Op → ℕ) where
         rest_at (λ (v : Name) (o : ℕ). 0) g r.0 r.2 r.3 r.4 (h r.0 r.1)
 
   -- what has passed nothing
-  none_passed : (p : Publications) (G : List (SharedEntry Op)) (n : Name → ℕ → ℕ) (l : List (LocalEntry Op)) → ((v : Name) (o : ℕ) → n v o ≡ 0) → AllListed place p G → HasPassed place p n G l
+  none_passed : (p : Publications) (G : List (SharedEntry Op)) (n : Name → ℕ → ℕ) (l : List (LocalEntry Op)) → ((v : Name) (o : ℕ) → n v o ≡ 0) → AllListed place p G → HasSkipped place p n G l
   none_passed p G n l none all =
       record {
         within = λ v o. let zero_is = none v o in omega arith;
@@ -115,7 +115,7 @@ module _ {Op : Type 0} (place : Op → ℕ) where
       }
 
   -- the same lists with the same numbers
-  same_counts : (p q : Publications) (n m : Name → ℕ → ℕ) → ((v : Name) (o : ℕ) → m v o ≡ n v o) → ((v : Name) (o : ℕ) → q.ids v o ≡ p.ids v o) → (G : List (SharedEntry Op)) (l : List (LocalEntry Op)) → HasPassed place p n G l → HasPassed place q m G l
+  same_counts : (p q : Publications) (n m : Name → ℕ → ℕ) → ((v : Name) (o : ℕ) → m v o ≡ n v o) → ((v : Name) (o : ℕ) → q.ids v o ≡ p.ids v o) → (G : List (SharedEntry Op)) (l : List (LocalEntry Op)) → HasSkipped place p n G l → HasSkipped place q m G l
   same_counts p q n m same ids G l h =
       record {
         within = λ v o. subst (λ (k : ℕ). k ≤ length (q.ids v o)) (sym (same v o)) (subst (λ (w : List ℕ). n v o ≤ length w) (sym (ids v o)) (h.within v o));
@@ -128,18 +128,18 @@ module _ {Op : Type 0} (place : Op → ℕ) where
     unlisted : (G : List (SharedEntry Op)) → AllListed place p G → AllListed place q G
     unlisted G all g i = subst (λ (ids : List ℕ). In g.id ids) (sym (f.ids g.owner (place g.op))) (all g i)
 
-    gone_stays : (G : List (SharedEntry Op)) → HasPassed place p p.gone G [] → HasPassed place q q.gone G []
+    gone_stays : (G : List (SharedEntry Op)) → HasSkipped place p p.gone G [] → HasSkipped place q q.gone G []
     gone_stays G h = same_counts p q p.gone q.gone f.gone f.ids G [] h
 
-    forgotten : (G : List (SharedEntry Op)) (u : Name) (l : List (LocalEntry Op)) → u ≡ t → AllListed place p G → HasPassed place q (q.passed u) G l
+    forgotten : (G : List (SharedEntry Op)) (u : Name) (l : List (LocalEntry Op)) → u ≡ t → AllListed place p G → HasSkipped place q (q.passed u) G l
     forgotten G u l is all =
         none_passed q G (q.passed u) l (λ v o. f.passed u v o ∙ ap (λ (b : Bool). if b then 0 else p.passed u v o) (eq-names u t is)) (unlisted G all)
 
-    untouched : (G : List (SharedEntry Op)) (u : Name) (l : List (LocalEntry Op)) → (u =ⁿ t) ≡ false → HasPassed place p (p.passed u) G l → HasPassed place q (q.passed u) G l
+    untouched : (G : List (SharedEntry Op)) (u : Name) (l : List (LocalEntry Op)) → (u =ⁿ t) ≡ false → HasSkipped place p (p.passed u) G l → HasSkipped place q (q.passed u) G l
     untouched G u l off h =
         same_counts p q (p.passed u) (q.passed u) (λ v o. f.passed u v o ∙ ap (λ (b : Bool). if b then 0 else p.passed u v o) off) f.ids G l h
 
-    still : (G : List (SharedEntry Op)) (u : Name) (l : List (LocalEntry Op)) → AllListed place p G → HasPassed place p (p.passed u) G l → HasPassed place q (q.passed u) G l
+    still : (G : List (SharedEntry Op)) (u : Name) (l : List (LocalEntry Op)) → AllListed place p G → HasSkipped place p (p.passed u) G l → HasSkipped place q (q.passed u) G l
     still G u l all h = elim (names_tell u t) [
       | inl same ↦ forgotten G u l same.1 all
       | inr other ↦ untouched G u l other.0 h
@@ -153,7 +153,7 @@ module _ {Op : Type 0} (place : Op → ℕ) where
     listed_still : (G : List (SharedEntry Op)) → AllListed place p G → AllListed place q G
     listed_still G all g i = grown_in (p.ids g.owner (place g.op)) (q.ids g.owner (place g.op)) 0 g.id (longer_list g.owner (place g.op)) (all g i)
 
-    passed_still : (n m : Name → ℕ → ℕ) → ((v : Name) (o : ℕ) → m v o ≡ n v o) → (G : List (SharedEntry Op)) (l : List (LocalEntry Op)) → HasPassed place p n G l → HasPassed place q m G l
+    passed_still : (n m : Name → ℕ → ℕ) → ((v : Name) (o : ℕ) → m v o ≡ n v o) → (G : List (SharedEntry Op)) (l : List (LocalEntry Op)) → HasSkipped place p n G l → HasSkipped place q m G l
     passed_still n m passed G l h =
         record {
           within = λ v o.
@@ -178,7 +178,7 @@ module _ {Op : Type 0} (place : Op → ℕ) where
       | inr (inr none) ↦ absurd none
     ]
 
-    passed_new : (n m : Name → ℕ → ℕ) → n g.owner (place g.op) ≤ length (p.ids g.owner (place g.op)) → m g.owner (place g.op) ≡ n g.owner (place g.op) → (G : List (SharedEntry Op)) (l : List (LocalEntry Op)) → HasPassed place q m G l → HasPassed place q m (G ++ g ∷ []) l
+    passed_new : (n m : Name → ℕ → ℕ) → n g.owner (place g.op) ≤ length (p.ids g.owner (place g.op)) → m g.owner (place g.op) ≡ n g.owner (place g.op) → (G : List (SharedEntry Op)) (l : List (LocalEntry Op)) → HasSkipped place q m G l → HasSkipped place q m (G ++ g ∷ []) l
     passed_new n m low same_count G l h =
         record {
           within = h.within;
@@ -195,7 +195,7 @@ module _ {Op : Type 0} (place : Op → ℕ) where
   -- ---- a configuration
 
   abbrev AllPassed : Publications → List (SharedEntry Op) → List (Tx Op) → Type 0
-  AllPassed p G xs = (x : Tx Op) → In x xs → HasPassed place p (p.passed x.name) G x.local
+  AllPassed p G xs = (x : Tx Op) → In x xs → HasSkipped place p (p.passed x.name) G x.local
 
   committed_mark : (t : Name) (b : Bool) (g : SharedEntry Op) → ((cond b (record g { committed = true }) g).id ≡ g.id) × ((cond b (record g { committed = true }) g).owner ≡ g.owner) × ((cond b (record g { committed = true }) g).op ≡ g.op)
   committed_mark t true g = (refl, refl, refl)
@@ -219,12 +219,12 @@ module _ {Op : Type 0} (place : Op → ℕ) where
     -- a local log is longer at its end
     longer : (t : Name) (r : List (LocalEntry Op)) → p.kept ≡ true → AllPassed p c.shared (on_log t (λ l. l ++ r) c.opened)
     longer t r kept =
-        on_each t (λ (l : List (LocalEntry Op)). l ++ r) c.opened (λ (x : Tx Op). HasPassed place p (p.passed x.name) c.shared x.local)
+        on_each t (λ (l : List (LocalEntry Op)). l ++ r) c.opened (λ (x : Tx Op). HasSkipped place p (p.passed x.name) c.shared x.local)
         (λ x i is. onward p c.shared c.shared (p.passed x.name) x.local (x.local ++ r) (comes_all c.shared) (not_shorter x.local r) (h.passed kept x i)) (λ x i off. h.passed kept x i)
 
     marked : (t : Name) (id : ℕ) → p.kept ≡ true → AllPassed p c.shared (on_log t (set_mark id Pushed) c.opened)
     marked t id kept =
-        on_each t (set_mark id Pushed) c.opened (λ (x : Tx Op). HasPassed place p (p.passed x.name) c.shared x.local)
+        on_each t (set_mark id Pushed) c.opened (λ (x : Tx Op). HasSkipped place p (p.passed x.name) c.shared x.local)
         (λ x i is. onward p c.shared c.shared (p.passed x.name) x.local (set_mark id Pushed x.local) (comes_all c.shared) (λ j off. sym (stands_marked id Pushed x.local j) ∙ off) (h.passed kept x i)) (λ x i off. h.passed kept x i)
 
     same : (q r : Publications) → q ≡ p → r ≡ q → (d : Config Op) → TellsTrue place p d → TellsTrue place r d
@@ -280,7 +280,7 @@ module _ {Op : Type 0} (place : Op → ℕ) where
       listed_on : (G : List (SharedEntry Op)) → Comes G c.shared → q.kept ≡ true → AllListed place q G
       listed_on G comes kept = listed_onward q c.shared G comes (unlisted t p q f c.shared (h.listed (sym f.kept ∙ kept)))
 
-      gone_on : (G : List (SharedEntry Op)) → Comes G c.shared → q.kept ≡ true → HasPassed place q q.gone G []
+      gone_on : (G : List (SharedEntry Op)) → Comes G c.shared → q.kept ≡ true → HasSkipped place q q.gone G []
       gone_on G comes kept = onward q c.shared G q.gone [] [] comes (λ j missing. missing) (gone_stays t p q f c.shared (h.gone (sym f.kept ∙ kept)))
 
       begun : (y : Tx Op) → y.name ≡ t → q.kept ≡ true → AllPassed q c.shared (c.opened ++ y ∷ [])
@@ -310,7 +310,7 @@ module _ {Op : Type 0} (place : Op → ℕ) where
     -- an own entry of a transaction leaves the shared log, or changes its mark
     unpublished : (t : Name) (id : ℕ) → p.kept ≡ true → AllPassed p (without_shared id c.shared) (on_log t (set_mark id Unpushed) c.opened)
     unpublished t id kept =
-        on_each t (set_mark id Unpushed) c.opened (λ (x : Tx Op). HasPassed place p (p.passed x.name) (without_shared id c.shared) x.local)
+        on_each t (set_mark id Unpushed) c.opened (λ (x : Tx Op). HasSkipped place p (p.passed x.name) (without_shared id c.shared) x.local)
         (λ x i is. onward p c.shared (without_shared id c.shared) (p.passed x.name) x.local (set_mark id Unpushed x.local) (comes_without id c.shared) (λ j off. sym (stands_marked id Unpushed x.local j) ∙ off) (h.passed kept x i))
         (λ x i off. onward p c.shared (without_shared id c.shared) (p.passed x.name) x.local x.local (comes_without id c.shared) (λ j missing. missing) (h.passed kept x i))
 
@@ -323,7 +323,7 @@ module _ {Op : Type 0} (place : Op → ℕ) where
       low_listed : q.kept ≡ true → AllListed place q c.shared
       low_listed kept g i = subst (λ (ids : List ℕ). In g.id ids) (sym (f.ids g.owner (place g.op))) (h.listed (sym f.kept ∙ kept) g i)
 
-      low_passed : q.kept ≡ true → (x : Tx Op) → In x c.opened → HasPassed place q (q.passed x.name) c.shared x.local
+      low_passed : q.kept ≡ true → (x : Tx Op) → In x c.opened → HasSkipped place q (q.passed x.name) c.shared x.local
       low_passed kept x i =
           let old = h.passed (sym f.kept ∙ kept) x i in
           record {
@@ -332,7 +332,7 @@ module _ {Op : Type 0} (place : Op → ℕ) where
                 (lower_in (p.ids g.owner (place g.op)) (p.passed x.name g.owner (place g.op)) (q.passed x.name g.owner (place g.op)) g.id (low x.name g.owner (place g.op)) (old.rest g j off));
           }
 
-      low_gone : q.kept ≡ true → HasPassed place q q.gone c.shared []
+      low_gone : q.kept ≡ true → HasSkipped place q q.gone c.shared []
       low_gone kept = same_counts p q p.gone q.gone f.gone f.ids c.shared [] (h.gone (sym f.kept ∙ kept))
 
       lowered : TellsTrue place q c
@@ -347,7 +347,7 @@ module _ {Op : Type 0} (place : Op → ℕ) where
 
       unpulled : q.kept ≡ true → AllPassed q c.shared (on_log t (without_local id) c.opened)
       unpulled kept =
-          on_each t (without_local id) c.opened (λ (x : Tx Op). HasPassed place q (q.passed x.name) c.shared x.local)
+          on_each t (without_local id) c.opened (λ (x : Tx Op). HasSkipped place q (q.passed x.name) c.shared x.local)
           (λ x i named. let has = low_passed kept x i in record {
             within = has.within;
             rest = λ g j off. elim (eqb_tells g.id id) [
@@ -360,7 +360,7 @@ module _ {Op : Type 0} (place : Op → ℕ) where
     -- ---- steps
 
     module _ {State : Type 0} (O : Object Op State) (s : Sound O c) where
-      shorter : p.kept ≡ true → (x : Tx Op) → In x c.opened → (id : ℕ) → IsLast id (last x.local) → HasPassed place p (p.passed x.name) c.shared (but_last x.local)
+      shorter : p.kept ≡ true → (x : Tx Op) → In x c.opened → (id : ℕ) → IsLast id (last x.local) → HasSkipped place p (p.passed x.name) c.shared (but_last x.local)
       shorter kept x i id is =
           let r = unapplied_entry x.local id is in
           let old = h.passed kept x i in
@@ -376,8 +376,8 @@ module _ {Op : Type 0} (place : Op → ℕ) where
       unapplied : (t : Name) (id : ℕ) → Meets O c (Unapp t id) → p.kept ≡ true → AllPassed p c.shared (on_log t but_last c.opened)
       unapplied t id meets kept =
           let r = there_holds (tx t c.opened) _ meets in
-          on_each t but_last c.opened (λ (x : Tx Op). HasPassed place p (p.passed x.name) c.shared x.local)
-          (only_one O c s t r.0 r.1 (λ (w : Tx Op). HasPassed place p (p.passed w.name) c.shared (but_last w.local)) (shorter kept r.0 (found_tx t c.opened r.0 r.1).0 id r.2.0))
+          on_each t but_last c.opened (λ (x : Tx Op). HasSkipped place p (p.passed x.name) c.shared x.local)
+          (only_one O c s t r.0 r.1 (λ (w : Tx Op). HasSkipped place p (p.passed w.name) c.shared (but_last w.local)) (shorter kept r.0 (found_tx t c.opened r.0 r.1).0 id r.2.0))
           (λ x i off. h.passed kept x i)
 
       -- what is known stays true where the step has its effect

@@ -15,18 +15,18 @@ use Rattle.pp_styles.specs.Knowing.{last_of}
 use Rattle.pp_styles.specs.Noting.{kept_ids, taken_in}
 use Rattle.pp_styles.specs.declared.published.Published.{Published}
 
--- What is known: whether lists are kept; of each owner and object, the ids that it pushed, in
--- order; how many of these ids, from the first on, are gone; and of each transaction, owner and
--- object, how many of these ids, from the first on, the transaction has passed.
+-- What is known: whether lists are kept; for each owner and object, the ids that the owner pushed,
+-- in order; how many of these ids, from the first on, are gone for all transactions; and how many
+-- of them each transaction has passed.
 pub record Publications : Type 0 where
   pub kept : Bool
   pub ids : Name → ℕ → List ℕ
   pub gone : Name → ℕ → ℕ
   pub passed : Name → Name → ℕ → ℕ
 
--- Each list has at least so many ids, and an entry that is not in a local log has its id among the
--- others.
-pub record HasPassed {Op : Type 0} (place : Op → ℕ) (p : Publications) (count : Name → ℕ → ℕ)
+-- The first `count` ids of each list are skipped: each list has so many, and an entry of G that is
+-- not in the local log has its id after them.
+pub record HasSkipped {Op : Type 0} (place : Op → ℕ) (p : Publications) (count : Name → ℕ → ℕ)
     (G : List (SharedEntry Op)) (l : List (LocalEntry Op)) : Type 0 where
   pub within : (v : Name) (o : ℕ) → count v o ≤ length (p.ids v o)
   pub rest : (g : SharedEntry Op) → In g G → stands_in l g.id ≡ false →
@@ -37,13 +37,15 @@ abbrev pub AllListed : {Op : Type 0} → (Op → ℕ) → Publications → List 
 AllListed {Op} place p G =
     (g : SharedEntry Op) → In g G → In g.id (p.ids g.owner (place g.op))
 
--- It is true of a configuration. No id that is gone is of an entry that is listed only there.
+-- What is known is true of a configuration. If lists are kept, each entry of the shared log is in
+-- its list, also after the ids that are gone. An entry that a transaction lacks is after the ids
+-- that the transaction has passed.
 pub record TellsTrue {Op : Type 0} (place : Op → ℕ) (p : Publications) (c : Config Op) :
     Type 0 where
   pub listed : p.kept ≡ true → AllListed place p c.shared
-  pub gone : p.kept ≡ true → HasPassed place p p.gone c.shared []
+  pub gone : p.kept ≡ true → HasSkipped place p p.gone c.shared []
   pub passed : p.kept ≡ true → (x : Tx Op) → In x c.opened →
-      HasPassed place p (p.passed x.name) c.shared x.local
+      HasSkipped place p (p.passed x.name) c.shared x.local
 
 -- a transaction has passed nothing any more
 pub record Unpasses (t : Name) (old new : Publications) : Type 0 where
@@ -134,28 +136,29 @@ Keeps place G old new =
     ⊎ (AllListed place new G × ((v : Name) (o : ℕ) → new.gone v o ≡ 0)
     × ((u v : Name) (o : ℕ) → new.passed u v o ≡ 0))
 
--- Of the entries of G that are not in a local log: if the id of one is among the ids from the n-th
--- on, and from the m-th on, it is among the others.
+-- If an entry of G is not in the local log, and its id is among `ids` from the n-th on and also from
+-- the m-th on, its id is among `more`.
 abbrev pub Adds : {Op : Type 0} → List (LocalEntry Op) → List (SharedEntry Op) → List ℕ → ℕ → ℕ →
     List ℕ → Type 0
 Adds {Op} l G ids n m more = (g : SharedEntry Op) → In g G → stands_in l g.id ≡ false →
     In g.id (drop n ids) → In g.id (drop m ids) → In g.id more
 
--- Each number is as it was, or none, or it is at this object, and what it passes more is gone or
--- needs no further look.
-abbrev pub PassesAt : {Op : Type 0} → List (LocalEntry Op) → List (SharedEntry Op) → ℕ →
+-- Each number is as it was, or 0, or it is at this object, and the ids that it skips more need no
+-- further look.
+abbrev pub SkipsAt : {Op : Type 0} → List (LocalEntry Op) → List (SharedEntry Op) → ℕ →
     (Name → List ℕ) → (Name → ℕ → ℕ) → (Name → ℕ → ℕ) → (Name → ℕ → ℕ) → Type 0
-PassesAt l G o ids gone old new =
+SkipsAt l G o ids gone old new =
     (v : Name) (p : ℕ) → (new v p ≡ old v p) ⊎ (new v p ≡ 0)
     ⊎ ((p ≡ o) × (new v p ≤ length (ids v))
     × Adds l G (ids v) (gone v p) (old v p) (drop (new v p) (ids v)))
 
--- The same, of a transaction with this local log. More ids may be gone at this object.
+-- `SkipsAt` for the ids that are gone, and for those that a transaction with this local log has
+-- passed.
 pub record LooksFurther {Op : Type 0} (t : Name) (o : ℕ) (l : List (LocalEntry Op))
     (G : List (SharedEntry Op)) (old new : Publications) : Type 0 where
   pub kept : new.kept ≡ old.kept
   pub ids : (v : Name) (p : ℕ) → new.ids v p ≡ old.ids v p
-  pub gone : PassesAt [] G o (λ v. old.ids v o) old.gone old.gone new.gone
+  pub gone : SkipsAt [] G o (λ v. old.ids v o) old.gone old.gone new.gone
   pub passed : (u v : Name) (p : ℕ) → (new.passed u v p ≡ old.passed u v p)
       ⊎ (new.passed u v p ≡ 0)
       ⊎ (((u =ⁿ t) ≡ true) × (p ≡ o) × (new.passed u v p ≤ length (old.ids v p))

@@ -23,7 +23,7 @@ pub trait Front<S: Parted> {
     ghost state: { List Kind → Self → FrontState };
 
     /// The steps that a record stands for, where the machine stands. The sources that are kept may be
-    /// in another order than those of the definition. The only error is that memory was refused, and
+    /// in another order than those of the definition. The only error is out of memory, and
     /// the front is then of no more use.
     fn expand(
         &mut self,

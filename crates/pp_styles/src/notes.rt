@@ -72,7 +72,7 @@ fn add_ids<S: Parted>(
     Ok(())
 }
 
-/// The first position at `from` or behind it whose id is not in the local log.
+/// The first position at `from` or after it whose id is not in the local log.
 fn first_missing<S: Parted>(local: &Local<S>, ids: &[u32], from: usize) -> usize
     ensures within { result ≤ length ids.now }
     ensures there { (i id : ℕ) → from ≤ i → i < result → slice_get ids.now i ≡ Some id →
@@ -86,7 +86,7 @@ fn first_missing<S: Parted>(local: &Local<S>, ids: &[u32], from: usize) -> usize
     ids.len()
 }
 
-/// The first position at `from` or behind it whose entry is own and unpushed.
+/// The first position at `from` or after it whose entry is own and unpushed.
 fn first_unpushed<S: Parted>(local: &Local<S>, from: usize) -> usize
     ensures within { result ≤ length local.now.1 }
     ensures none { (i : ℕ) (e : EntryOf S.Op) → from ≤ i → i < result →
@@ -215,7 +215,7 @@ impl Notes {
     }
 
     /// The position of an id among the committed ids of an object, if it is kept, and else 0.
-    fn place_of(&self, object: u16, id: u32) -> usize
+    fn position_of(&self, object: u16, id: u32) -> usize
         ensures { (result ≡ 0)
             ⊎ (slice_get ((known self.now).ids object) result ≡ Some id) }
     {
@@ -248,7 +248,7 @@ impl Notes {
             return;
         }
         self.keep_places(object);
-        let at = self.place_of(object, id);
+        let at = self.position_of(object, id);
         if at >= taken {
             return;
         }

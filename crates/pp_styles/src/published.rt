@@ -6,9 +6,11 @@ ghost use Rattle.pp_records.specs.Fronts.{has_name};
 ghost use Rattle.pp_model.specs.Lists.{In};
 ghost use Rattle.pp_model.specs.Names.{Name as NameOf, ◌=ⁿ◌};
 ghost use Rattle.pp_styles.specs.Noting.{taken_in};
-ghost use Rattle.pp_styles.specs.Publishing.{Adds, PassesAt, ids_by, ids_of, passed_by};
+ghost use Rattle.pp_styles.specs.Publishing.{Adds, SkipsAt, ids_by, ids_of, passed_by};
 
+use crate::entries_on::{Counts, count_all, count_less, count_more, count_of};
 use crate::id_lists::{Lists, Owners, add_on, list_all, listed};
+use crate::looks::{first_missing, first_there, last_ids};
 use crate::places::{Places, place_in};
 use crate::source_set::{SourceSet, is_among};
 use crate::taken_from::TakenFrom;
@@ -18,6 +20,9 @@ use pp_kind::Parted;
 use pp_log_local::Local;
 use pp_log_shared::Shared;
 use std::alloc::Global;
+
+/// So many entries of a walk cost as much as a look at one source.
+const ENTRIES_PER_LOOK: usize = 32;
 
 /// Lists of what each transaction pushed, and for each open transaction how much of them it is
 /// known to have. No list is kept until one is wanted.
@@ -29,57 +34,27 @@ pub struct Published {
     /// An id that left the shared log stays in its list, and is added again if it is pushed again.
     lists: Lists,
     places: Places,
-    /// For an owner and an object: so many ids of their list, from the first on, are gone. The other
-    /// ids are those of all entries.
+    /// For an object: so many entries of the shared log are on it. Nothing is promised of it.
+    counts: Counts,
+    /// For an owner and an object: so many ids of their list, from the first on, are skipped. The id
+    /// of each entry of the shared log is after them.
     gone: TakenFrom,
     /// For an open transaction, an owner and an object: so many ids of their list, from the first
-    /// on, are passed. The other ids are those of all entries that are not in the local log.
+    /// on, are skipped. The id of each entry of the shared log that is not in the local log is after
+    /// them.
     passed: IndexMap<Name, TakenFrom>,
 }
 
-/// Whether an entry of this id is in the shared log, and not in the local log.
-fn is_missing<S: Parted>(shared: &Shared<S>, local: &Local<S>, id: u32) -> bool
-    ensures { result ≡ false → (stands_in local.now.1 id ≡ true)
-        ⊎ (position (λ e. e.id == id) shared.now.1 ≡ None) }
-{
-    if local.find(id).is_some() {
-        return false;
-    }
-    shared.find(id).is_some()
-}
-
-/// The first position at `from` or after it whose entry is in the shared log, and not in the local
-/// log.
-fn first_missing<S: Parted>(shared: &Shared<S>, local: &Local<S>, ids: &[u32], from: usize) -> usize
-    ensures within { result ≤ length ids.now }
-    ensures there { (i id : ℕ) → from ≤ i → i < result → slice_get ids.now i ≡ Some id →
-        (stands_in local.now.1 id ≡ true) ⊎ (position (λ e. e.id == id) shared.now.1 ≡ None) }
-{
-    for at in from..ids.len() {
-        if is_missing(shared, local, ids[at]) {
-            return at;
-        }
-    }
-    ids.len()
-}
-
-/// The first position at `from` or after it whose entry is in the shared log.
-fn first_there<S: Parted>(shared: &Shared<S>, ids: &[u32], from: usize) -> usize
-    ensures within { result ≤ length ids.now }
-    ensures gone { (i id : ℕ) → from ≤ i → i < result → slice_get ids.now i ≡ Some id →
-        position (λ e. e.id == id) shared.now.1 ≡ None }
-{
-    for at in from..ids.len() {
-        if shared.find(ids[at]).is_some() {
-            return at;
-        }
-    }
-    ids.len()
-}
-
-/// Keeps a number at an owner and an object if it is more than `from`. If memory runs out, none may
-/// be kept.
-fn move_on(alloc: Global, counts: &mut TakenFrom, owner: &Name, object: u16, from: usize, at: usize)
+/// Keeps a number at an owner and an object if it is more than `from`. If memory runs out, no number
+/// may be kept there.
+fn raise_count(
+    alloc: Global,
+    counts: &mut TakenFrom,
+    owner: &Name,
+    object: u16,
+    from: usize,
+    at: usize,
+)
     ensures { (v : NameOf) (o : ℕ) → (taken_in v counts.new o ≡ 0)
         ⊎ (taken_in v counts.new o ≡ taken_in v counts.old o)
         ⊎ (((v =ⁿ owner.now) ≡ true) × (o ≡ object) × (taken_in v counts.new o ≡ at)) }
@@ -89,7 +64,7 @@ fn move_on(alloc: Global, counts: &mut TakenFrom, owner: &Name, object: u16, fro
     }
 }
 
-/// Moves on how many ids of an owner and an object are gone. It returns that number.
+/// Raises the number of ids of an owner and an object that are gone, and returns it.
 fn skip_gone<S: Parted>(
     alloc: Global,
     gone: &mut TakenFrom,
@@ -107,16 +82,8 @@ fn skip_gone<S: Parted>(
 {
     let from = gone.count(owner, object);
     let at = first_there(shared, ids, from);
-    move_on(alloc, gone, owner, object, from, at);
+    raise_count(alloc, gone, owner, object, from, at);
     at
-}
-
-/// The ids from a position on.
-fn last_ids(ids: &[u32], from: usize) -> &[u32]
-    requires { from ≤ length ids.now }
-    ensures { result.now ≡ drop from ids.now }
-{
-    &ids[from..]
 }
 
 /// Nothing is passed.
@@ -139,8 +106,8 @@ fn pass_back(passed: &mut TakenFrom, owner: &Name, object: u16, most: usize)
     passed.replace(owner, object, most);
 }
 
-/// Adds the ids of an owner and an object that are neither gone nor passed. It first passes those
-/// that need no further look.
+/// Adds the ids of an owner and an object that are neither gone nor passed. It first raises both
+/// numbers as far as the ids need no further look.
 fn add_rest<S: Parted>(
     alloc: Global,
     ids: &mut Vec<u32>,
@@ -152,10 +119,10 @@ fn add_rest<S: Parted>(
     shared: &Shared<S>,
     local: &Local<S>,
 ) -> Result<(), OutOfMemory>
-    ensures gone { PassesAt [] shared.now.1 object (λ v. ids_of v owners.now.entries)
+    ensures gone { SkipsAt [] shared.now.1 object (λ v. ids_of v owners.now.entries)
         (λ v p. taken_in v gone.old p) (λ v p. taken_in v gone.old p)
         (λ v p. taken_in v gone.new p) }
-    ensures passed { PassesAt local.now.1 shared.now.1 object (λ v. ids_of v owners.now.entries)
+    ensures passed { SkipsAt local.now.1 shared.now.1 object (λ v. ids_of v owners.now.entries)
         (λ v p. taken_in v gone.old p) (λ v p. taken_in v passed.old p)
         (λ v p. taken_in v passed.new p) }
     ensures kept { OnOk result ((i : ℕ) → In i ids.old.items → In i ids.new.items) }
@@ -170,12 +137,12 @@ fn add_rest<S: Parted>(
     }
     let least = skip_gone(alloc, gone, owner, object, listed, shared);
     let at = first_missing(shared, local, listed, from.max(least));
-    move_on(alloc, passed, owner, object, from, at);
+    raise_count(alloc, passed, owner, object, from, at);
     ids.extend_from_slice(last_ids(listed, at))?;
     Ok(())
 }
 
-/// The same of each of these owners.
+/// Adds what `add_rest` adds, for each of these owners.
 fn add_rests<S: Parted>(
     alloc: Global,
     ids: &mut Vec<u32>,
@@ -187,10 +154,10 @@ fn add_rests<S: Parted>(
     shared: &Shared<S>,
     local: &Local<S>,
 ) -> Result<(), OutOfMemory>
-    ensures gone { PassesAt [] shared.now.1 object (λ v. ids_of v owners.now.entries)
+    ensures gone { SkipsAt [] shared.now.1 object (λ v. ids_of v owners.now.entries)
         (λ v p. taken_in v gone.old p) (λ v p. taken_in v gone.old p)
         (λ v p. taken_in v gone.new p) }
-    ensures passed { PassesAt local.now.1 shared.now.1 object (λ v. ids_of v owners.now.entries)
+    ensures passed { SkipsAt local.now.1 shared.now.1 object (λ v. ids_of v owners.now.entries)
         (λ v p. taken_in v gone.old p) (λ v p. taken_in v passed.old p)
         (λ v p. taken_in v passed.new p) }
     ensures kept { OnOk result ((i : ℕ) → In i ids.old.items → In i ids.new.items) }
@@ -235,7 +202,8 @@ fn listed_sources(
     Ok(names)
 }
 
-/// The same of each source. It goes over the sources, or over the owners if they are fewer.
+/// Adds what `add_rest` adds, for each source. It goes over the sources, or over the owners if they
+/// are fewer.
 fn add_fewer<S: Parted>(
     alloc: Global,
     ids: &mut Vec<u32>,
@@ -247,10 +215,10 @@ fn add_fewer<S: Parted>(
     shared: &Shared<S>,
     local: &Local<S>,
 ) -> Result<(), OutOfMemory>
-    ensures gone { PassesAt [] shared.now.1 object (λ v. ids_of v owners.now.entries)
+    ensures gone { SkipsAt [] shared.now.1 object (λ v. ids_of v owners.now.entries)
         (λ v p. taken_in v gone.old p) (λ v p. taken_in v gone.old p)
         (λ v p. taken_in v gone.new p) }
-    ensures passed { PassesAt local.now.1 shared.now.1 object (λ v. ids_of v owners.now.entries)
+    ensures passed { SkipsAt local.now.1 shared.now.1 object (λ v. ids_of v owners.now.entries)
         (λ v p. taken_in v gone.old p) (λ v p. taken_in v passed.old p)
         (λ v p. taken_in v passed.new p) }
     ensures kept { OnOk result ((i : ℕ) → In i ids.old.items → In i ids.new.items) }
@@ -270,7 +238,7 @@ fn add_fewer<S: Parted>(
     )
 }
 
-/// The same of each source, by all lists.
+/// Adds what `add_rest` adds, for each source, by the lists at the object.
 fn add_on_object<S: Parted>(
     alloc: Global,
     ids: &mut Vec<u32>,
@@ -282,10 +250,10 @@ fn add_on_object<S: Parted>(
     shared: &Shared<S>,
     local: &Local<S>,
 ) -> Result<(), OutOfMemory>
-    ensures gone { PassesAt [] shared.now.1 object (λ v. ids_by v object lists.now.entries)
+    ensures gone { SkipsAt [] shared.now.1 object (λ v. ids_by v object lists.now.entries)
         (λ v p. taken_in v gone.old p) (λ v p. taken_in v gone.old p)
         (λ v p. taken_in v gone.new p) }
-    ensures passed { PassesAt local.now.1 shared.now.1 object
+    ensures passed { SkipsAt local.now.1 shared.now.1 object
         (λ v. ids_by v object lists.now.entries) (λ v p. taken_in v gone.old p)
         (λ v p. taken_in v passed.old p) (λ v p. taken_in v passed.new p) }
     ensures kept { OnOk result ((i : ℕ) → In i ids.old.items → In i ids.new.items) }
@@ -319,17 +287,32 @@ impl Published {
             kept: false,
             lists: IndexMap::new(alloc),
             places: Places::new(alloc),
+            counts: Counts::new(alloc),
             gone: TakenFrom::new(alloc),
             passed: IndexMap::new(alloc),
         }
     }
 
     /// How many transactions pushed on an object.
-    pub fn owners_on(&self, object: u16) -> usize {
+    fn owners_on(&self, object: u16) -> usize {
         match self.lists.get(&object) {
             Some(owners) => owners.len(),
             None => 0,
         }
+    }
+
+    /// Whether a walk over the entries on an object is shorter than a look at each of these sources.
+    /// Nothing is promised of it.
+    pub fn is_walk_shorter(&self, object: u16, sources: &SourceSet) -> bool {
+        let looks = self.owners_on(object).min(sources.len());
+        looks.saturating_mul(ENTRIES_PER_LOOK) > count_of(&self.counts, object)
+    }
+
+    /// Lowers the count of entries on an object, one of which leaves the shared log.
+    pub fn count_less(&mut self, object: u16)
+        ensures { publications self.new ≡ publications self.old }
+    {
+        count_less(&mut self.counts, object);
     }
 
     /// Adds the last entry of the shared log to the lists, if they are kept.
@@ -346,6 +329,7 @@ impl Published {
         let Some(last) = shared.entry(at) else {
             return Ok(());
         };
+        count_more(&mut self.counts, S::place(&last.op));
         add_on(
             self.alloc,
             &mut self.lists,
@@ -368,6 +352,7 @@ impl Published {
         self.lists = IndexMap::new(self.alloc);
         self.places = Places::new(self.alloc);
         list_all(self.alloc, &mut self.lists, &mut self.places, shared)?;
+        self.counts = count_all(self.alloc, shared);
         self.gone = TakenFrom::new(self.alloc);
         self.passed = none_passed(self.alloc);
         self.kept = true;
@@ -409,7 +394,7 @@ impl Published {
     }
 
     /// The position of an id in the list of an owner and an object, if it is known, and else 0.
-    fn place_of(&self, owner: &Name, object: u16, id: u32) -> usize
+    fn position_of(&self, owner: &Name, object: u16, id: u32) -> usize
         ensures { (result ≡ 0)
             ⊎ (slice_get ((publications self.now).ids owner.now object) result ≡ Some id) }
     {
@@ -452,7 +437,7 @@ impl Published {
         if !self.kept {
             return;
         }
-        let at = self.place_of(owner, object, id);
+        let at = self.position_of(owner, object, id);
         self.lower(tx, owner, object, at);
     }
 

@@ -1,4 +1,4 @@
-//! What a transaction takes over: the entries of an object that it has not.
+//! What a transaction pulls: the entries of an object that it lacks.
 ghost use Rattle.std.specs.Prelude.{◌≡◌, ◌++◌, IfNone, IfOk, IfSome, IsSorted, OnOk, drop};
 ghost use Rattle.std.specs.Ordering.{nat_cmp};
 ghost use Rattle.std.specs.Option.{option_copied};
@@ -18,12 +18,12 @@ use pp_log_local::Local;
 use pp_log_shared::Shared;
 use std::alloc::Global;
 
-/// How many entries are looked at, one after another, before the index is asked. Where the objects
-/// of a run take turns, the next entry on one of them stands no further.
+/// How many entries are looked at, one after another, before the index is asked. If the objects of a
+/// run take turns, the next entry on one of them is no further.
 const NEAR: usize = MOST_OBJECTS;
 
-/// Whether an entry of this id stands in the log. It looks first where the hint says, and moves the
-/// hint behind what it finds: what was taken over stands there mostly in the order in which it is
+/// Whether an entry of this id is in the log. It looks first at the position of the hint, and moves
+/// the hint after what it finds: entries that were pulled are mostly in the order in which they are
 /// looked for.
 fn stands_in<S: Parted>(local: &Local<S>, id: u32, hint: &mut usize) -> bool
     ensures { result ≡ stands_in local.now.1 id }
@@ -47,9 +47,9 @@ pub fn touches<S: Parted>(local: &Local<S>, object: u16, from: usize) -> bool
     local.next_on(object, from).is_some()
 }
 
-/// As `Shared::next_on`: the first position at `from` or behind it whose operation is on the object.
-/// It looks at the next entries, one after another, and asks the index only where none of these is
-/// on it: most entries of a busy object stand close together.
+/// The first position at `from` or after it whose operation is on the object, as `Shared::next_on`
+/// has it. It looks at the next entries, one after another, and asks the index only if none of these
+/// is on the object: most entries of a busy object are close together.
 fn next_near<S: Parted>(shared: &Shared<S>, object: u16, from: usize) -> Option<usize>
     ensures found { IfSome result
         (IsFirstFrom (IsOn S.place_of shared_item object) shared.now.1 from) }
@@ -68,7 +68,7 @@ fn next_near<S: Parted>(shared: &Shared<S>, object: u16, from: usize) -> Option<
     shared.next_on(object, at)
 }
 
-/// Adds PULL of an entry that does not stand in the local log. The hint is that of `stands_in`.
+/// Adds PULL of an entry that is not in the local log. The hint is that of `stands_in`.
 fn pull_missing<S: Parted>(
     list: &mut StepList<S::Op>,
     tx: &Name,
@@ -92,7 +92,7 @@ fn is_followed<O: Copy>(sources: Option<&SourceSet>, entry: &SharedEntry<O>) -> 
     entry.committed || is_among(sources, &entry.owner)
 }
 
-/// Adds PULL of an entry that is followed and does not stand in the local log. The hint is that of
+/// Adds PULL of an entry that is followed and not in the local log. The hint is that of
 /// `stands_in`.
 fn pull_followed<S: Parted>(
     list: &mut StepList<S::Op>,
@@ -112,9 +112,8 @@ fn pull_followed<S: Parted>(
     pull_missing(list, tx, entry.id, local, hint)
 }
 
-/// Adds PULL of each entry on the object that is committed or owned by a source and does not stand
-/// in the local log, in order. The only error is that memory was refused, and the list is then of
-/// no more use.
+/// Adds PULL of each entry on the object that is committed or owned by a source and not in the local
+/// log, in order. The only error is out of memory, and the list is then of no more use.
 pub fn follow<S: Parted>(
     list: &mut StepList<S::Op>,
     tx: &Name,
@@ -150,7 +149,7 @@ fn positions<S: Parted>(
     ensures { IfOk result (λ at. IsSorted nat_cmp at.items
         × HoldsPositions ids.now shared.now.1 at.items) }
 {
-    // It stands here for what its clauses say of each log.
+    // It is called for what its clauses say of each log.
     let _distinct = shared.len();
     let mut at = Vec::new(alloc);
     for id in ids {
@@ -222,7 +221,8 @@ fn pull_at<S: Parted>(
     Ok(())
 }
 
-/// As `follow`. It is told ids of entries that are followed, and looks at no others.
+/// Adds what `follow` adds. It is given ids of entries, and looks at no others: each entry that
+/// `follow` pulls is among these.
 pub fn follow_ids<S: Parted>(
     alloc: Global,
     list: &mut StepList<S::Op>,
@@ -246,10 +246,10 @@ pub fn follow_ids<S: Parted>(
     pull_at(list, tx, object, sources, &at, shared, local)
 }
 
-/// Adds the steps by which a transaction takes over what is committed of an object: PULL of each
-/// committed entry on it that is not in the local log, in the order of the shared log. It is told
-/// ids of committed entries, and looks at no others. The only error is that memory was refused, and
-/// the list is then of no more use.
+/// Adds the steps by which a transaction pulls what is committed on an object: PULL of each committed
+/// entry on it that is not in the local log, in the order of the shared log. It is given ids of
+/// committed entries, and looks at no others: each entry that is pulled is among these. The only
+/// error is out of memory, and the list is then of no more use.
 pub fn refresh<S: Parted>(
     alloc: Global,
     list: &mut StepList<S::Op>,

@@ -72,14 +72,14 @@ fn entry_of<S: Parted>(shared: &Shared<S>, id: u32) -> Option<&SharedEntry<S::Op
     ensures none { IfNone result ((g : EntryOf S.Op) → In g shared.now.1 → g.id ≡ id → ⊥) }
     ensures there { IfSome result (λ e. In e.now shared.now.1 × (e.now.id ≡ id)) }
 {
-    // It stands here for what its clauses say of each log.
+    // It is called for what its clauses say of each log.
     let _distinct = shared.len();
     let at = shared.find(id)?;
     let entry = shared.entry(at)?;
     Some(entry)
 }
 
-/// Takes back that an entry of a transaction that an UNPUSH marks is not unpushed.
+/// Takes back the note that an entry which an UNPUSH marks is not unpushed.
 fn mark_unpushed<S: Parted>(notes: &mut Notes, tx: &Name, id: u32, machine: &Machine<S>)
     ensures { ForgetsBefore S.place_of (Unpush tx.now id) machine.now.config (known notes.old)
         (known notes.new) }
@@ -93,7 +93,7 @@ fn mark_unpushed<S: Parted>(notes: &mut Notes, tx: &Name, id: u32, machine: &Mac
     notes.lower_pushed(tx, at);
 }
 
-/// Takes back that an entry that an UNPULL takes out is in the local log of a transaction.
+/// Takes back the note that an entry which an UNPULL removes is in the local log of a transaction.
 fn note_unpulled<S: Parted>(notes: &mut Notes, tx: &Name, id: u32, machine: &Machine<S>)
     ensures { ForgetsBefore S.place_of (Unpull tx.now id) machine.now.config (known notes.old)
         (known notes.new) }
@@ -109,8 +109,8 @@ fn note_unpulled<S: Parted>(notes: &mut Notes, tx: &Name, id: u32, machine: &Mac
     notes.give_back(tx, S::place(&entry.op), id);
 }
 
-/// Takes back that a transaction has passed an entry that an UNPULL takes out.
-fn list_unpulled<S: Parted>(published: &mut Published, tx: &Name, id: u32, shared: &Shared<S>)
+/// Takes back that a transaction has passed an entry which an UNPULL removes.
+fn unpass_unpulled<S: Parted>(published: &mut Published, tx: &Name, id: u32, shared: &Shared<S>)
     ensures { PassesBack S.place_of shared.now.1 tx.now id (publications published.old)
         (publications published.new) }
 {
@@ -118,6 +118,16 @@ fn list_unpulled<S: Parted>(published: &mut Published, tx: &Name, id: u32, share
         return;
     };
     published.give_back(tx, &entry.owner, S::place(&entry.op), id);
+}
+
+/// Lowers the count of an object whose entry an UNPUSH removes from the shared log.
+fn count_unpushed<S: Parted>(published: &mut Published, id: u32, shared: &Shared<S>)
+    ensures { publications published.new ≡ publications published.old }
+{
+    let Some(entry) = entry_of(shared, id) else {
+        return;
+    };
+    published.count_less(S::place(&entry.op));
 }
 
 /// Lists an entry that a PULL takes over.
@@ -165,10 +175,13 @@ fn forget_before<S: Parted>(
             notes.forget(tx);
             published.forget(tx);
         }
-        Step::Unpush { tx, id } => mark_unpushed(notes, tx, *id, machine),
+        Step::Unpush { tx, id } => {
+            mark_unpushed(notes, tx, *id, machine);
+            count_unpushed(published, *id, machine.shared());
+        }
         Step::Unpull { tx, id } => {
             note_unpulled(notes, tx, *id, machine);
-            list_unpulled(published, tx, *id, machine.shared());
+            unpass_unpulled(published, tx, *id, machine.shared());
         }
         Step::App { .. }
         | Step::Unapp { .. }
@@ -224,16 +237,13 @@ fn list_after<S: Parted>(
     }
 }
 
-/// Whether a walk over the shared log is shorter than a look at each source. A look costs as much as
-/// two entries of a walk.
-fn is_walk_shorter<S: Parted>(
-    published: &Published,
-    object: u16,
-    sources: &SourceSet,
-    shared: &Shared<S>,
-) -> bool {
-    let looks = published.owners_on(object).min(sources.len());
-    looks.saturating_mul(2) > shared.len()
+/// A copy of these ids.
+fn copied(alloc: Global, ids: &[u32]) -> Result<Vec<u32>, OutOfMemory>
+    ensures { IfOk result (λ copy. copy.items ≡ ids.now) }
+{
+    let mut copy = Vec::new(alloc);
+    copy.extend_from_slice(ids)?;
+    Ok(copy)
 }
 
 /// As `Tracked::wanted`.
@@ -254,27 +264,27 @@ fn wanted_of<S: Parted>(
         (kept_sources (option_copied sources.entry)) machine.now.config.shared x.local
         ids.items)) }
 {
-    // It stands here for what its clauses say of each machine.
+    // It is called for what its clauses say of each machine.
     let _sound = machine.count();
     let Some(local) = machine.local(tx) else {
         return Ok(None);
     };
-    let mut ids = Vec::new(alloc);
-    ids.extend_from_slice(notes.unknown(tx, object))?;
     let Some(sources) = sources else {
+        let ids = copied(alloc, notes.unknown(tx, object))?;
         return Ok(Some(ids));
     };
     let shared = machine.shared();
     published.keep(shared)?;
-    if is_walk_shorter(published, object, sources, shared) {
+    if published.is_walk_shorter(object, sources) {
         return Ok(None);
     }
+    let mut ids = copied(alloc, notes.unknown(tx, object))?;
     published.add_missing(&mut ids, tx, object, sources, shared, local)?;
     Ok(Some(ids))
 }
 
 impl<S: Parted> Tracked<S> {
-    /// A machine of which nothing is known yet. The only error is that memory was refused.
+    /// A machine of which nothing is known yet. The only error is out of memory.
     pub fn new(alloc: Global, machine: Machine<S>) -> Result<Self, OutOfMemory>
         ensures { IfOk result (λ tracked. tracked ≡ machine) }
     {
@@ -343,7 +353,7 @@ impl<S: Parted> Tracked<S> {
         ensures ids { IfSome result (λ r.
             IsAllBut S.place_of object self.now.config.shared r.0.now.1 r.1.now) }
     {
-        // It stands here for what its clauses say of each machine.
+        // It is called for what its clauses say of each machine.
         let _sound = self.machine.count();
         let local = self.machine.local(tx)?;
         Some((local, self.notes.unknown(tx, object)))
@@ -355,7 +365,7 @@ impl<S: Parted> Tracked<S> {
         ensures { option_map (λ entries. pushall tx.now entries.now) result ≡ option_map (λ x.
             pushall tx.now x.local) (open_tx tx.now self.now.config.opened) }
     {
-        // It stands here for what its clauses say of each machine.
+        // It is called for what its clauses say of each machine.
         let _sound = self.machine.count();
         let local = self.machine.local(tx)?;
         let entries = local.entries();
@@ -367,7 +377,7 @@ impl<S: Parted> Tracked<S> {
     pub fn look_at_taken(&mut self, tx: &Name, object: u16)
         ensures { self.new ≡ self.old }
     {
-        // It stands here for what its clauses say of each machine.
+        // It is called for what its clauses say of each machine.
         let _sound = self.machine.count();
         let Some(local) = self.machine.local(tx) else {
             return;
@@ -406,7 +416,7 @@ impl<S: Parted> Tracked<S> {
     pub fn look_at_pushed(&mut self, tx: &Name)
         ensures { self.new ≡ self.old }
     {
-        // It stands here for what its clauses say of each machine.
+        // It is called for what its clauses say of each machine.
         let _sound = self.machine.count();
         let Some(local) = self.machine.local(tx) else {
             return;
@@ -418,7 +428,7 @@ impl<S: Parted> Tracked<S> {
     pub fn look_at_pulled(&mut self, tx: &Name)
         ensures { self.new ≡ self.old }
     {
-        // It stands here for what its clauses say of each machine.
+        // It is called for what its clauses say of each machine.
         let _sound = self.machine.count();
         let Some(local) = self.machine.local(tx) else {
             return;
@@ -430,7 +440,7 @@ impl<S: Parted> Tracked<S> {
     pub fn trim_pulled(&mut self, tx: &Name, source: &Name)
         ensures { self.new ≡ self.old }
     {
-        // It stands here for what its clauses say of each machine.
+        // It is called for what its clauses say of each machine.
         let _sound = self.machine.count();
         let Some(local) = self.machine.local(tx) else {
             return;
@@ -467,7 +477,7 @@ impl<S: Parted> Tracked<S> {
             mut published,
             mut pulled,
         } = self;
-        // It stands here for what its clauses say of each machine.
+        // It is called for what its clauses say of each machine.
         let _sound = machine.count();
         forget_before(&mut notes, &mut published, step, &machine);
         list_before(&mut pulled, step, machine.shared());

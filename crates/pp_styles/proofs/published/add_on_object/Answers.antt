@@ -4,7 +4,7 @@ use Rattle.std.specs.Map.{lookup}
 use Rattle.pp_model.specs.Lists.{In}
 use Rattle.pp_model.specs.Names.{Name}
 use Rattle.pp_styles.specs.Noting.{taken_in}
-use Rattle.pp_styles.specs.Publishing.{Adds, PassesAt, ids_of, kept_entries}
+use Rattle.pp_styles.specs.Publishing.{Adds, SkipsAt, ids_of, kept_entries}
 use Rattle.pp_styles.proofs.Looking.{adds_none, passes_same}
 use Rattle.pp_styles.proofs.published.add_on_object.Goals as goal
 
@@ -23,12 +23,12 @@ returns-in_default-clause-added g c = λ v i.
 
 pub returns-clause-gone : goal.returns-clause-gone
 returns-clause-gone g c =
-    subst (λ w. PassesAt [] c.args.shared.now.1 c.args.object (λ v. ids_of v (kept_entries w)) (λ v p. taken_in v c.args.gone.now p) (λ v p. taken_in v c.args.gone.now p) (λ v p. taken_in v c.add_fewer.new.gone p))
+    subst (λ w. SkipsAt [] c.args.shared.now.1 c.args.object (λ v. ids_of v (kept_entries w)) (λ v p. taken_in v c.args.gone.now p) (λ v p. taken_in v c.args.gone.now p) (λ v p. taken_in v c.add_fewer.new.gone p))
     c.in-Some.ensures.value c.add_fewer.ensures.gone
 
 pub returns-clause-passed : goal.returns-clause-passed
 returns-clause-passed g c =
-    subst (λ w. PassesAt c.args.local.now.1 c.args.shared.now.1 c.args.object (λ v. ids_of v (kept_entries w)) (λ v p. taken_in v c.args.gone.now p) (λ v p. taken_in v c.args.passed.now p) (λ v p. taken_in v c.add_fewer.new.passed p))
+    subst (λ w. SkipsAt c.args.local.now.1 c.args.shared.now.1 c.args.object (λ v. ids_of v (kept_entries w)) (λ v p. taken_in v c.args.gone.now p) (λ v p. taken_in v c.args.passed.now p) (λ v p. taken_in v c.add_fewer.new.passed p))
     c.in-Some.ensures.value c.add_fewer.ensures.passed
 
 pub returns-clause-added : goal.returns-clause-added

@@ -5,7 +5,7 @@ use Rattle.pp_model.proofs.Lists.{in_left, in_right}
 use Rattle.pp_model.specs.Names.{Name}
 use Rattle.pp_styles.specs.Noting.{taken_in}
 use Rattle.pp_styles.specs.Publishing.{Adds, ids_of}
-use Rattle.pp_styles.proofs.Looking.{Gone, adds_past, passes_same, passes_set, skips, skips_gone}
+use Rattle.pp_styles.proofs.Looking.{NeedsNoLook, adds_past, passes_same, passes_set, skips, skips_gone}
 use Rattle.pp_styles.proofs.published.add_rest.Goals as goal
 
 pub returns-then-from-listed-clause-gone : goal.returns-then-from-listed-clause-gone
@@ -45,10 +45,10 @@ returns-in_err-extend_from_slice-clause-passed g c =
     let at = c.first_missing-at.result in
     let listed = c.listed-listed.result.now in
     let low = subst (λ w. at ≤ length w) c.listed-listed.ensures c.first_missing-at.ensures.within in
-    let after = subst (λ k. (i id : ℕ) → k ≤ i → i < at → slice_get listed i ≡ Some id → Gone l G id) c.max.ensures c.first_missing-at.ensures.there in
+    let after = subst (λ k. (i id : ℕ) → k ≤ i → i < at → slice_get listed i ≡ Some id → NeedsNoLook l G id) c.max.ensures c.first_missing-at.ensures.there in
     let adds = subst (λ k. Adds l G (ids c.args.owner.now) n k (drop at (ids c.args.owner.now))) c.count-from.ensures
     (subst (λ w. Adds l G w n c.count-from.result (drop at w)) c.listed-listed.ensures (skips l G listed c.count-from.result n least at c.skip_gone-least.ensures.gone after)) in
-    passes_set l G c.args.object ids c.args.owner.now at gone a (λ v p. taken_in v c.move_on.new.counts p) c.move_on.ensures low adds
+    passes_set l G c.args.object ids c.args.owner.now at gone a (λ v p. taken_in v c.raise_count.new.counts p) c.raise_count.ensures low adds
 
 pub returns-clause-gone : goal.returns-clause-gone
 returns-clause-gone g c =
@@ -73,10 +73,10 @@ returns-clause-passed g c =
     let at = c.first_missing-at.result in
     let listed = c.listed-listed.result.now in
     let low = subst (λ w. at ≤ length w) c.listed-listed.ensures c.first_missing-at.ensures.within in
-    let after = subst (λ k. (i id : ℕ) → k ≤ i → i < at → slice_get listed i ≡ Some id → Gone l G id) c.max.ensures c.first_missing-at.ensures.there in
+    let after = subst (λ k. (i id : ℕ) → k ≤ i → i < at → slice_get listed i ≡ Some id → NeedsNoLook l G id) c.max.ensures c.first_missing-at.ensures.there in
     let adds = subst (λ k. Adds l G (ids c.args.owner.now) n k (drop at (ids c.args.owner.now))) c.count-from.ensures
     (subst (λ w. Adds l G w n c.count-from.result (drop at w)) c.listed-listed.ensures (skips l G listed c.count-from.result n least at c.skip_gone-least.ensures.gone after)) in
-    passes_set l G c.args.object ids c.args.owner.now at gone a (λ v p. taken_in v c.move_on.new.counts p) c.move_on.ensures low adds
+    passes_set l G c.args.object ids c.args.owner.now at gone a (λ v p. taken_in v c.raise_count.new.counts p) c.raise_count.ensures low adds
 
 pub returns-clause-kept : goal.returns-clause-kept
 returns-clause-kept g c = λ i there.
@@ -92,7 +92,7 @@ returns-clause-added g c = λ e i off out there.
     let not_gone = subst (λ w. In e.id (drop n w)) (sym c.listed-listed.ensures) out in
     let not_passed = subst (λ k. In e.id (drop k listed)) (sym c.count-from.ensures)
     (subst (λ w. In e.id (drop (taken_in c.args.owner.now c.args.passed.now c.args.object) w)) (sym c.listed-listed.ensures) there) in
-    let after = subst (λ k. (i id : ℕ) → k ≤ i → i < at → slice_get listed i ≡ Some id → Gone l G id) c.max.ensures c.first_missing-at.ensures.there in
+    let after = subst (λ k. (i id : ℕ) → k ≤ i → i < at → slice_get listed i ≡ Some id → NeedsNoLook l G id) c.max.ensures c.first_missing-at.ensures.there in
     let rest = skips l G listed c.count-from.result n c.skip_gone-least.result at c.skip_gone-least.ensures.gone after e i off not_gone not_passed in
     subst (λ w. In e.id w) (sym c.in_ok-extend_from_slice.ensures.items)
     (in_right e.id c.args.ids.now.items _ (subst (λ w. In e.id w) (sym c.last_ids.ensures) rest))

@@ -25,8 +25,8 @@ returns-then-at-taken-clause-again c =
     let high = c.if-at-taken.true in
     let count_is = c.taken-taken.ensures in
     let same : k.taken t o ≡ (known c.args.self.now).taken t o = ap (λ w. w.taken t o) c.keep_places.ensures in
-    let low : k.taken t o ≤ c.place_of-at.result = omega (arith, high, count_is, same) in
-    again_at (k.ids o) (k.taken t o) c.place_of-at.result c.args.id low c.place_of-at.ensures
+    let low : k.taken t o ≤ c.position_of-at.result = omega (arith, high, count_is, same) in
+    again_at (k.ids o) (k.taken t o) c.position_of-at.result c.args.id low c.position_of-at.ensures
 
 -- ---- it is lowered
 
@@ -38,17 +38,17 @@ returns-clause-lowers c =
     let high = c.if-at-taken.false in
     let count_is = c.taken-taken.ensures in
     let same : k.taken t o ≡ (known c.args.self.now).taken t o = ap (λ w. w.taken t o) c.keep_places.ensures in
-    let low : c.place_of-at.result < k.taken t o = omega (arith, high, count_is, same) in
+    let low : c.position_of-at.result < k.taken t o = omega (arith, high, count_is, same) in
     let new = known c.replace_taken.new.self in
-    subst (λ w. LowersTaken t o w new) c.keep_places.ensures (taken_set t o c.place_of-at.result k new c.replace_taken.ensures.each low)
+    subst (λ w. LowersTaken t o w new) c.keep_places.ensures (taken_set t o c.position_of-at.result k new c.replace_taken.ensures.each low)
 
 pub returns-clause-again : goal.returns-clause-again
 returns-clause-again c =
     let new = known c.replace_taken.new.self in
     let o = c.args.object in
-    let at = c.place_of-at.result in
+    let at = c.position_of-at.result in
     elim c.replace_taken.ensures.here [
       | inl none ↦ inl none
       | inr set ↦ again_at (new.ids o) (new.taken c.args.tx.now o) at c.args.id (omega (arith, set))
-          (subst (λ w. (at ≡ 0) ⊎ (slice_get w at ≡ Some c.args.id)) (sym (c.replace_taken.ensures.each.ids o)) c.place_of-at.ensures)
+          (subst (λ w. (at ≡ 0) ⊎ (slice_get w at ≡ Some c.args.id)) (sym (c.replace_taken.ensures.each.ids o)) c.position_of-at.ensures)
     ]

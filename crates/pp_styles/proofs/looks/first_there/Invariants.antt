@@ -1,6 +1,6 @@
 use Rattle.std.proofs.Common.{◌≡◌, ◌≤◌, ◌<◌, ◌==◌, ℕ, None, Some, position}
 use Rattle.std.specs.List.{slice_get}
-use Rattle.pp_styles.proofs.published.first_there.Given as goal
+use Rattle.pp_styles.proofs.looks.first_there.Given as goal
 
 abbrev pub invariant-loop-at : goal.invariant-loop-at
 invariant-loop-at g l =

@@ -2,7 +2,7 @@ use Rattle.std.proofs.Common.{◌≡◌, ◌⊎◌, drop, subst, sym}
 use Rattle.pp_model.specs.Lists.{In}
 use Rattle.pp_styles.specs.Publishing.{publications}
 use Rattle.pp_styles.proofs.Leaving.{passes_back, passes_none}
-use Rattle.pp_styles.proofs.tracked.list_unpulled.Goals as goal
+use Rattle.pp_styles.proofs.tracked.unpass_unpulled.Goals as goal
 
 pub returns-in_default : goal.returns-in_default
 returns-in_default g c =

@@ -1,6 +1,6 @@
 use Rattle.std.proofs.Common.{◌∙◌, ap, inl, is_some, sym}
 use Rattle.pp_styles.proofs.Standing.{standing}
-use Rattle.pp_styles.proofs.published.is_missing.Goals as goal
+use Rattle.pp_styles.proofs.looks.is_missing.Goals as goal
 
 pub returns-then-is_some : goal.returns-then-is_some
 returns-then-is_some g c = λ off.

@@ -1,6 +1,6 @@
 use Rattle.std.proofs.Common.{◌≡◌, ◌==◌, ◌∙◌, ℕ, None, arith, position, sym}
 use Rattle.pp_styles.proofs.Looking.{none_if, true_next}
-use Rattle.pp_styles.proofs.published.first_there.Goals as goal
+use Rattle.pp_styles.proofs.looks.first_there.Goals as goal
 
 pub loop-at-preserved : goal.loop-at-preserved
 loop-at-preserved g c =
