@@ -148,6 +148,31 @@ def withdrawn_beside(count):
     return first + records, 1 + 2 * count + 1 + steps, committed + 1
 
 
+def withdrawn_beside_open(count):
+    """`withdrawn`, after another transaction has published 40 additions to the same object, which stay uncommitted."""
+    records, steps, committed = withdrawn(count)
+    first = [begin("w", "pw")] + [op("w", 3 * count + number, "add", [1]) for number in range(40)] + [named("publish", "w")]
+    return first + records, 2 + 2 * 40 + steps, committed
+
+
+def withdrawn_by_many(count):
+    """A transaction commits additions to another object. Many sources publish one addition each and withdraw it. Then a reader
+    of all of them calls many times."""
+    (reader, writer, *sources), records = opened(2 + count)
+    numbers = itertools.count()
+
+    def calls(number, on):
+        return [op({"o1": reader, "o2": writer}[on], next(numbers), "add", [1], on=on) for _ in range(number)]
+
+    records += calls(2 * count, "o2") + [named("commit", writer)]
+    records += [named("depend", reader, source=source) for source in sources] + calls(1, "o1")
+    for source in sources:
+        records += [op(source, next(numbers), "add", [1]), named("publish", source), named("retry", source)]
+    records += calls(16 * count, "o1") + [named("commit", reader)]
+    steps = (2 + count) + (4 * count + 1) + count + 1 + 6 * count + 16 * count + (16 * count + 1) + 1
+    return records, steps, 2
+
+
 def followed(calls):
     """A transaction publishes additions one by one. Another, whose source it is, adds after each of them."""
     (source, tx), records = opened(2)
@@ -214,6 +239,8 @@ RUNS = (
     ("sources dropped by a long transaction", header("dependent", "mem"), dropped_alone, 11_000),
     ("additions published and withdrawn", header("dependent", "counter"), withdrawn, 17_900),
     ("additions withdrawn beside additions that stay", header("dependent", "counter", "counter"), withdrawn_beside, 16_000),
+    ("additions withdrawn beside uncommitted ones", header("dependent", "counter"), withdrawn_beside_open, 17_800),
+    ("additions withdrawn by many sources", header("dependent", "counter", "counter"), withdrawn_by_many, 3_500),
     ("additions of a source, a reader after each", header("dependent", "counter"), followed, 20_000),
     ("rounds of 6,000 calls, each undone", header("boosted", "map"), undone, 8),
     ("hardware sections that read and abort", header("hardware", "mem"), aborted, 10_000),
