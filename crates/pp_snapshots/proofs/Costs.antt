@@ -1,5 +1,5 @@
 -- Proof machinery: what a record costs, in the words of contracts.
-use Rattle.std.proofs.Common.{◌≡◌, ◌+◌, ◌*◌, ◌&&◌, ℕ, zero, Bool, true, false, cond, drop, nat_eq, List, [], ◌∷◌, length, option_map, Option, None, Some, refl, sym, ap, ◌∙◌}
+use Rattle.std.proofs.Common.{◌≡◌, ◌+◌, ◌*◌, ◌&&◌, ℕ, zero, Bool, true, false, cond, drop, nat_eq, List, [], ◌∷◌, length, take, option_map, Option, None, Some, refl, sym, ap, ◌∙◌}
 use Rattle.std.proofs.lemmas.List.{length-map}
 use Rattle.pp_core.specs.declared.call.Kind.{Kind}
 use Rattle.pp_core.specs.declared.entry.Item.{Item}
@@ -14,7 +14,7 @@ use Rattle.pp_laws_summary.specs.Places.{ops_at}
 use Rattle.pp_laws_summary.specs.Summary.{OpenSummary, open_named}
 use Rattle.pp_summary.specs.Shown.{filled, open_in}
 use Rattle.pp_summary.specs.declared.parts.OpenTx.{OpenTx}
-use Rattle.pp_snapshots.specs.Costs.{has_part, later_at, of_open, ops_of_part, share_part, take_most, tried_for, tried_with}
+use Rattle.pp_snapshots.specs.Costs.{has_part, later_at, of_open, ops_of_part, share_part, take_most, tried_for, tried_missed, tried_with}
 use Rattle.pp_snapshots.specs.Many.{ops_made}
 use Rattle.pp_snapshots.specs.Ops.{kept_most, made_from, op_most, or_nothing, refresh_most, snapshot_at}
 use Rattle.pp_snapshots.specs.Past.{made_at}
@@ -64,9 +64,19 @@ module _ {Shape State Op Undo : Type 0} (o : Object Shape State Op Undo) (place 
   op_is : (ks : List Kind) (t : Name) (op : Op) (x : OpenTx (List (Item Op))) → op_most place part silent v.past x op ≡ 2 * (tried_with place part silent (shown ks v) (shown_tx t x) op + 1)
   op_is ks t op x =
       let q = place op in
+      let own = ops x.own in
       let later = later_at place (shown ks v) (shown_tx t x) q in
-      ap (λ (l : List Op). 2 * (cond (silent op) 0 (cond (has_part part op l) (length l + length (ops_at place q (ops x.own))) (length (ops_of_part part op (ops x.own)))) + 1)) (later_is ks t q x)
-      ∙ ap (λ (w : List Op). 2 * (cond (silent op) 0 (cond (has_part part op later) (length later + length (ops_at place q w)) (length (ops_of_part part op w))) + 1)) (sym (ops_local t x.own))
+      let seen = seen_in x.seen.entries q in
+      let D = done_ops o place v.committed q in
+      let n = snapshot_at seen (ops_at place q own) (length (made_at q v.past.places.items)) in
+      ap (λ (l : List Op). most op n (take n (ops_made (made_at q v.past.places.items))) l own) (later_is ks t q x)
+      ∙ ap (λ (l : List Op). most op n (take n l) later own) (made_is q)
+      ∙ ap (λ (i : ℕ). most op (snapshot_at seen (ops_at place q own) i) (take (snapshot_at seen (ops_at place q own) i) D) later own) (count_is o place v.shape v.past (done_ops o place v.committed) h.past q)
+      ∙ ap (λ (w : List Op). most op (snapshot_at seen (ops_at place q w) (length D)) (take (snapshot_at seen (ops_at place q w) (length D)) D) later w) (sym (ops_local t x.own))
+    where
+      most : Op → ℕ → List Op → List Op → List Op → ℕ
+      most op n first later own =
+          2 * (cond (silent op) 0 (cond (has_part part op later) (tried_missed place part op n first later own) (length (ops_of_part part op own))) + 1)
 
   refresh_is : (ks : List Kind) (t : Name) (q : ℕ) (x : OpenTx (List (Item Op))) → refresh_most place part v.past x q ≡ 2 * tried_for place part (shown ks v) (shown_tx t x) q
   refresh_is ks t q x =

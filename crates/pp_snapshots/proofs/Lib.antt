@@ -17,3 +17,4 @@ pub mod StepCounts
 pub mod Sums
 pub mod Runs
 pub mod Apart
+pub mod NewObjects

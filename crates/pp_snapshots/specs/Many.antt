@@ -20,6 +20,11 @@ abbrev pub AreAsked : {Shape State Op Undo : Type 0} → Object Shape State Op U
 AreAsked {Op = Op} o v l =
     (a : Op) → In a l → IsTrue (o.fits (o.shape v.state) a) × IsTrue (o.ranged a)
 
+-- They are of the objects of a shape, and in the range of records.
+abbrev pub AreOf : {Shape State Op Undo : Type 0} → Object Shape State Op Undo → Shape → List Op →
+    Type 0
+AreOf {Op = Op} o shape l = (a : Op) → In a l → IsTrue (o.fits shape a) × IsTrue (o.ranged a)
+
 module _ {Shape State Op Undo : Type 0} (o : Object Shape State Op Undo) (place : Op → ℕ) where
   -- At each place they are allowed after those there.
   abbrev pub MayFollow : Shape → (ℕ → List Op) → List Op → Type 0

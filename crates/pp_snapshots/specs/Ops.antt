@@ -16,7 +16,7 @@ use Rattle.pp_laws_summary.specs.Places.{ops_at}
 use Rattle.pp_summary.specs.Shown.{calls_of, open_in}
 use Rattle.pp_summary.specs.declared.parts.OpenTx.{OpenTx}
 use Rattle.pp_snapshots.specs.declared.past.Past.{Past}
-use Rattle.pp_snapshots.specs.Costs.{has_part, ops_of_part, share_part}
+use Rattle.pp_snapshots.specs.Costs.{has_part, ops_of_part, share_part, tried_missed}
 use Rattle.pp_snapshots.specs.Many.{ops_made}
 use Rattle.pp_snapshots.specs.Past.{IsPast, made_at}
 use Rattle.pp_snapshots.specs.Shown.{Kept, seen_in}
@@ -103,15 +103,24 @@ module _ {Shape State Op Undo : Type 0} (o : Object Shape State Op Undo) where
 abbrev pub made_from : {State Op Undo : Type 0} → Past State Op Undo → ℕ → ℕ → List Op
 made_from v q n = drop n (ops_made (made_at q v.places.items))
 
+-- the first ones at a place, of those that were applied
+abbrev pub made_first : {State Op Undo : Type 0} → Past State Op Undo → ℕ → ℕ → List Op
+made_first v q n = take n (ops_made (made_at q v.places.items))
+
 -- How many operations are tried with an operation that is asked after the first n at its place, with
--- these own ones: none if its call has no result, and else the own ones of its part. But if a later
--- one is of its part, they are the own ones at its place and all later ones there.
+-- these own ones, if a later one is of its part.
+abbrev pub missed_after : {State Op Undo : Type 0} → (Op → ℕ) → (Op → Part) → Past State Op Undo →
+    ℕ → List Op → Op → ℕ
+missed_after place part v n own op =
+    tried_missed place part op n (made_first v (place op) n) (made_from v (place op) n) own
+
+-- So many whether one is or not: none if its call has no result, and else, if none is, the own ones of
+-- its part.
 abbrev pub tried_after : {State Op Undo : Type 0} → (Op → ℕ) → (Op → Part) → (Op → Bool) →
     Past State Op Undo → ℕ → List Op → Op → ℕ
 tried_after place part silent v n own op =
     cond (silent op) 0
-    (cond (has_part part op (made_from v (place op) n))
-    (length (made_from v (place op) n) + length (ops_at place (place op) own))
+    (cond (has_part part op (made_from v (place op) n)) (missed_after place part v n own op)
     (length (ops_of_part part op own)))
 
 -- What an operation costs at most: it and what is tried with it is applied and taken back once.

@@ -1,6 +1,7 @@
 //! Optimistic runs are decided from the serial state alone, without a log.
 #![tactic(auto)]
 
+mod anew;
 mod begin;
 mod commit;
 mod laws;

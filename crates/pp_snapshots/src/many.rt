@@ -1,5 +1,5 @@
 //! Operations that are applied one after another, or taken back.
-ghost use Rattle.std.specs.Prelude.{◌≡◌, ◌+◌, ◌-◌, ◌*◌, ◌≤◌, ℕ, IfOk, OnOk, cond, drop, length};
+ghost use Rattle.std.specs.Prelude.{◌≡◌, ◌+◌, ◌-◌, ◌*◌, ◌≤◌, ◌++◌, ℕ, IfOk, OnOk, cond, drop, length};
 ghost use Rattle.pp_snapshots.specs.Past.{IsSomePast, made_at};
 ghost use Rattle.pp_snapshots.specs.Many.{AllFollow, AllGoBack, AreAsked, AreThere, CanAllGoBack};
 ghost use Rattle.pp_kind.specs.declared.range.TheConstants.{MOST_OPERATIONS};
@@ -127,6 +127,16 @@ pub fn ops_from<O: Copy, U: Drop>(
         later.push(made.op)?;
     }
     Ok(later)
+}
+
+/// Adds these operations at the end. The only error is out of memory.
+pub fn append<O: Copy>(list: &mut Vec<O>, more: &[O]) -> Result<(), OutOfMemory>
+    ensures { OnOk result (list.new.items ≡ list.old.items ++ more.now) }
+{
+    for op in more {
+        list.push(*op)?;
+    }
+    Ok(())
 }
 
 /// Whether these operations, all at one place, are allowed behind the first ones there, as many as

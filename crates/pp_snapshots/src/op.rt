@@ -1,5 +1,6 @@
 //! An op record.
 ghost use Rattle.std.specs.Prelude.{◌≡◌, ◌==◌, ◌&&◌, ◌+◌, ◌*◌, ◌<◌, ◌≤◌, ◌++◌, ◌∷◌, [], not, cond, nat_eq, zero};
+ghost use Rattle.std.specs.Prelude.{◌/◌, nat_le};
 ghost use Rattle.std.specs.Prelude.{IfOk, IsTrue, OnOk, is_some, length, false, true};
 ghost use Rattle.std.specs.List.{list_any};
 ghost use Rattle.pp_body.specs.Walks.{HasTaken, MayTake};
@@ -12,12 +13,13 @@ ghost use Rattle.pp_snapshots.specs.Costs.{has_part, ops_of_part};
 ghost use Rattle.pp_snapshots.specs.Many.{AreAsked, TellsBehind};
 ghost use Rattle.pp_snapshots.specs.Moving.{Answers};
 ghost use Rattle.pp_snapshots.specs.Ops.{AddsOp, HasAllowed, IsGrown, MayAddOp, MayHave, TellsOp};
-ghost use Rattle.pp_snapshots.specs.Ops.{made_from, op_most, open_most, tried_after};
+ghost use Rattle.pp_snapshots.specs.Ops.{made_from, missed_after, op_most, open_most, tried_after};
 ghost use Rattle.pp_snapshots.specs.Past.{IsSomePast, made_at};
 ghost use Rattle.pp_kind.specs.declared.range.TheConstants.{MOST_OPERATIONS};
 ghost use Rattle.pp_snapshots.specs.Shown.{Keeps, seen_in};
 
-use crate::many::may_follow;
+use crate::anew::{are_allowed, first_of_part};
+use crate::many::{append, may_follow};
 use crate::parts::Parts;
 use crate::past::{Done, Past};
 use pp_core::{IdSet, Item, Items, Name, OutOfMemory, Ticks};
@@ -212,9 +214,44 @@ fn ask_silent<S: PartByPart, L: Ledger>(
     may_follow::<S, L>(past, place, all, &asked, ticks)
 }
 
-/// Whether an operation is allowed after the first ones at its place and the own ones there. The only
-/// error is out of memory.
-fn ask<S: PartByPart, L: Ledger>(
+/// These operations, the own ones of the part of another, and then this one. The only error is out of
+/// memory.
+fn with_own<S: Parted>(
+    alloc: Global,
+    first: Vec<S::Op>,
+    own: &[Item<S::Op>],
+    op: &S::Op,
+) -> Result<Vec<S::Op>, OutOfMemory>
+    ensures { IfOk result (λ l. l.items
+        ≡ first.items ++ (ops_of_part S.part_of op.now (ops own.now) ++ op.now ∷ [])) }
+{
+    let mut asked = first;
+    let mine = own_of_part::<S>(alloc, own, op)?;
+    append(&mut asked, &mine)?;
+    asked.push(*op)?;
+    Ok(asked)
+}
+
+/// Whether so many operations are looked at sooner than the later ones are taken back. One is taken back
+/// and applied again in the time in which 32 are looked at.
+fn is_near(seen: usize, later: usize) -> bool
+    ensures { result ≡ nat_le (seen / 32) later }
+{
+    seen / 32 <= later
+}
+
+/// Whether they are no more than the later ones.
+fn are_few(first: usize, later: usize) -> bool
+    ensures { result ≡ nat_le first later }
+{
+    first <= later
+}
+
+/// The same, where later operations may be of the part of this one. If few of the first ones are of
+/// its part, these, the own ones of its part, and it are tried on new objects. Otherwise all later ones
+/// are taken back meanwhile. The only error is out of memory.
+fn ask_missed<S: PartByPart, L: Ledger>(
+    shape: &S::Shape,
     past: &mut Past<S::State, S::Op, S::Undo>,
     own: &[Item<S::Op>],
     seen: usize,
@@ -222,6 +259,44 @@ fn ask<S: PartByPart, L: Ledger>(
     ticks: &mut Ticks<L>,
 ) -> Result<bool, OutOfMemory>
     requires some { IsSomePast S.object S.place_of past.old }
+    requires same { S.object.shape past.old.state ≡ shape.now }
+    requires own { AreAsked S.object past.old (ops own.now) }
+    requires asked { IsOpAsked S.object (S.object.shape past.old.state) op.now }
+    requires have { MayHave S.object S.place_of past.old (S.place_of op.now) seen (ops own.now) }
+    requires few { past.old.size + length own.now < MOST_OPERATIONS }
+    ensures tells { IfOk result (λ good. TellsBehind S.object S.place_of past.old
+        (S.place_of op.now) seen (ops_at S.place_of (S.place_of op.now) (ops own.now)
+        ++ op.now ∷ []) good past.new) }
+    ensures size { OnOk result (past.new.size ≡ past.old.size) }
+    ensures rises { ticks.old ≤ ticks.new }
+    ensures bound { ticks.new ≤ ticks.old
+        + 2 * (missed_after S.place_of S.part_of past.old seen (ops own.now) op.now + 1) }
+    ensures least { IfOk result (λ good. IsTrue good → ticks.old < ticks.new) }
+{
+    let later = count_at(&past.places, S::place(op)).saturating_sub(seen);
+    if !is_near(seen, later) {
+        return ask_place::<S, L>(past, own, seen, op, ticks);
+    }
+    let first = first_of_part::<S>(past, seen, op)?;
+    if !are_few(first.len(), later) {
+        return ask_place::<S, L>(past, own, seen, op, ticks);
+    }
+    let asked = with_own::<S>(past.alloc, first, own, op)?;
+    are_allowed::<S, L>(past.alloc, shape, &asked, ticks)
+}
+
+/// Whether an operation is allowed after the first ones at its place and the own ones there. The only
+/// error is out of memory.
+fn ask<S: PartByPart, L: Ledger>(
+    shape: &S::Shape,
+    past: &mut Past<S::State, S::Op, S::Undo>,
+    own: &[Item<S::Op>],
+    seen: usize,
+    op: &S::Op,
+    ticks: &mut Ticks<L>,
+) -> Result<bool, OutOfMemory>
+    requires some { IsSomePast S.object S.place_of past.old }
+    requires same { S.object.shape past.old.state ≡ shape.now }
     requires own { AreAsked S.object past.old (ops own.now) }
     requires asked { IsOpAsked S.object (S.object.shape past.old.state) op.now }
     requires have { MayHave S.object S.place_of past.old (S.place_of op.now) seen (ops own.now) }
@@ -239,7 +314,7 @@ fn ask<S: PartByPart, L: Ledger>(
     if S::is_silent(op) {
         ask_silent::<S, L>(past, own, seen, op, ticks)
     } else if misses_part::<S>(past, seen, op) {
-        ask_place::<S, L>(past, own, seen, op, ticks)
+        ask_missed::<S, L>(shape, past, own, seen, op, ticks)
     } else {
         ask_part::<S, L>(past, own, seen, op, ticks)
     }
@@ -250,12 +325,14 @@ fn ask<S: PartByPart, L: Ledger>(
 pub fn may_op<S: PartByPart, L: Ledger>(
     it: &OpenTx<Items<S::Op>>,
     ids: &IdSet,
+    shape: &S::Shape,
     past: &mut Past<S::State, S::Op, S::Undo>,
     id: u32,
     op: &S::Op,
     ticks: &mut Ticks<L>,
 ) -> Result<Option<usize>, OutOfMemory>
     requires some { IsSomePast S.object S.place_of past.old }
+    requires same { S.object.shape past.old.state ≡ shape.now }
     requires taken { HasTaken it.now.walk (calls_of S.object it.now.own) }
     requires own { AreAsked S.object past.old (ops it.now.own) }
     requires asked { IsOpAsked S.object (S.object.shape past.old.state) op.now }
@@ -279,7 +356,7 @@ pub fn may_op<S: PartByPart, L: Ledger>(
     let own = it.own.as_slice();
     let all = count_at(&past.places, place);
     let seen = snapshot(seen_at(&it.seen, place), has_own_at::<S>(own, place), all);
-    if !ask::<S, L>(past, own, seen, op, ticks)? {
+    if !ask::<S, L>(shape, past, own, seen, op, ticks)? {
         return Ok(None);
     }
     Ok(Some(seen))
@@ -344,7 +421,7 @@ pub fn do_op<S: PartByPart, L: Ledger>(
     let Some(it) = find_open(&parts.slots, tx) else {
         return Ok(false);
     };
-    let found = may_op::<S, L>(it, &parts.ids, &mut parts.past, id, op, ticks)?;
+    let found = may_op::<S, L>(it, &parts.ids, &parts.shape, &mut parts.past, id, op, ticks)?;
     let Some(seen) = found else {
         return Ok(false);
     };

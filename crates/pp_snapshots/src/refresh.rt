@@ -1,5 +1,5 @@
 //! A refresh record.
-ghost use Rattle.std.specs.Prelude.{◌≡◌, ◌+◌, ◌*◌, ◌++◌, ◌<◌, ◌≤◌, false, IfOk, IsTrue, OnOk, length};
+ghost use Rattle.std.specs.Prelude.{◌≡◌, ◌+◌, ◌*◌, ◌<◌, ◌≤◌, false, IfOk, IsTrue, OnOk, length};
 ghost use Rattle.pp_model.specs.Object.{ops};
 ghost use Rattle.pp_records.specs.Records.{Refresh};
 ghost use Rattle.pp_snapshots.specs.Costs.{share_part};
@@ -12,7 +12,7 @@ ghost use Rattle.pp_snapshots.specs.Refreshing.{TellsLater, TellsRefresh};
 ghost use Rattle.pp_kind.specs.declared.range.TheConstants.{MOST_OPERATIONS};
 ghost use Rattle.pp_snapshots.specs.Shown.{Keeps};
 
-use crate::many::{may_follow, ops_from};
+use crate::many::{append, may_follow, ops_from};
 use crate::op::{count_at, has_part, own_at, seen_at};
 use crate::parts::Parts;
 use crate::past::Past;
@@ -46,16 +46,6 @@ fn all_swap<S: Placed>(own: &[S::Op], later: &[S::Op]) -> bool
         }
     }
     true
-}
-
-/// Adds these operations at the end. The only error is out of memory.
-fn append<O: Copy>(list: &mut Vec<O>, more: &[O]) -> Result<(), OutOfMemory>
-    ensures { OnOk result (list.new.items ≡ list.old.items ++ more.now) }
-{
-    for op in more {
-        list.push(*op)?;
-    }
-    Ok(())
 }
 
 /// Whether one of the later operations is of the part of an own one.

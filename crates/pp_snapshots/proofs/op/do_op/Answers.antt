@@ -9,6 +9,7 @@ use Rattle.pp_snapshots.specs.Shown.{done_ops, shown}
 use Rattle.pp_snapshots.proofs.Apart.{has_allowed}
 use Rattle.pp_snapshots.proofs.Moving.{asked_here, fine_of, own_asked, own_within, some_past, stays_same, stays_with}
 use Rattle.pp_snapshots.proofs.OnOp.{from_good, grown_moves, not_open, to_good}
+use Rattle.pp_snapshots.proofs.Pasts.{shape_is}
 use Rattle.pp_snapshots.proofs.op.do_op.Goals as goal
 
 pub returns-in_default-clause-answers : goal.returns-in_default-clause-answers
@@ -23,6 +24,13 @@ returns-in_default-clause-answers g c =
 
 pub may_op-requires-clause-some : goal.may_op-requires-clause-some
 may_op-requires-clause-some g c = some_past g.S.Spec.object g.S.Placed.place_of g.S.Placed.SameAt g.met.S.Spec.lawful g.met.S.Placed.placed c.args.parts.now c.requires.keeps
+
+pub may_op-requires-clause-same : goal.may_op-requires-clause-same
+may_op-requires-clause-same g c =
+    let o = g.S.Spec.object in
+    let place = g.S.Placed.place_of in
+    let v = c.args.parts.now in
+    shape_is o place g.S.Placed.SameAt g.met.S.Spec.lawful g.met.S.Placed.placed v.shape v.past (done_ops o place v.committed) c.requires.keeps.past
 
 pub may_op-requires-clause-taken : goal.may_op-requires-clause-taken
 may_op-requires-clause-taken g c =

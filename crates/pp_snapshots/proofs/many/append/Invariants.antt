@@ -1,5 +1,5 @@
 use Rattle.std.proofs.Common.{◌≡◌, ◌++◌, take}
-use Rattle.pp_snapshots.proofs.refresh.append.Given as goal
+use Rattle.pp_snapshots.proofs.many.append.Given as goal
 
 -- with those so far
 abbrev pub invariant-loop-op : goal.invariant-loop-op
