@@ -69,14 +69,14 @@ module _ {Shape State Op Undo : Type 0} (o : Object Shape State Op Undo) (place 
       let seen = seen_in x.seen.entries q in
       let D = done_ops o place v.committed q in
       let n = snapshot_at seen (ops_at place q own) (length (made_at q v.past.places.items)) in
-      ap (λ (l : List Op). most op n (take n (ops_made (made_at q v.past.places.items))) l own) (later_is ks t q x)
-      ∙ ap (λ (l : List Op). most op n (take n l) later own) (made_is q)
-      ∙ ap (λ (i : ℕ). most op (snapshot_at seen (ops_at place q own) i) (take (snapshot_at seen (ops_at place q own) i) D) later own) (count_is o place v.shape v.past (done_ops o place v.committed) h.past q)
-      ∙ ap (λ (w : List Op). most op (snapshot_at seen (ops_at place q w) (length D)) (take (snapshot_at seen (ops_at place q w) (length D)) D) later w) (sym (ops_local t x.own))
+      ap (λ (l : List Op). most op (take n (ops_made (made_at q v.past.places.items))) l own) (later_is ks t q x)
+      ∙ ap (λ (l : List Op). most op (take n l) later own) (made_is q)
+      ∙ ap (λ (i : ℕ). most op (take (snapshot_at seen (ops_at place q own) i) D) later own) (count_is o place v.shape v.past (done_ops o place v.committed) h.past q)
+      ∙ ap (λ (w : List Op). most op (take (snapshot_at seen (ops_at place q w) (length D)) D) later w) (sym (ops_local t x.own))
     where
-      most : Op → ℕ → List Op → List Op → List Op → ℕ
-      most op n first later own =
-          2 * (cond (silent op) 0 (cond (has_part part op later) (tried_missed place part op n first later own) (length (ops_of_part part op own))) + 1)
+      most : Op → List Op → List Op → List Op → ℕ
+      most op first later own =
+          2 * (cond (silent op) 0 (cond (has_part part op later) (tried_missed place part op first later own) (length (ops_of_part part op own))) + 1)
 
   refresh_is : (ks : List Kind) (t : Name) (q : ℕ) (x : OpenTx (List (Item Op))) → refresh_most place part v.past x q ≡ 2 * tried_for place part (shown ks v) (shown_tx t x) q
   refresh_is ks t q x =

@@ -18,3 +18,4 @@ pub mod Sums
 pub mod Runs
 pub mod Apart
 pub mod NewObjects
+pub mod Listed

@@ -38,6 +38,7 @@ use Rattle.pp_summary.specs.declared.parts.OpenTx.{OpenTx}
 use Rattle.pp_summary.proofs.Filled.{Apart, in_set, keys_stay}
 use Rattle.pp_summary.proofs.Threads.{threads_less}
 use Rattle.pp_snapshots.specs.Moving.{IsGood, Moves, Stays}
+use Rattle.pp_snapshots.specs.declared.by_part.ByPart.{ByPart}
 use Rattle.pp_snapshots.specs.declared.past.Past.{Past}
 use Rattle.pp_snapshots.specs.Many.{AreAsked}
 use Rattle.pp_snapshots.specs.Past.{IsPast, IsSomePast}
@@ -322,8 +323,8 @@ module _ {Shape State Op Undo : Type 0} (o : Object Shape State Op Undo) (place 
         ∙ map_id (λ (y : OpenSummary Op). y) (without_open t (filled shown_tx es)) (λ y i. refl)
 
     -- Other states with the same operations at each place show the same.
-    pub stays_with : (past : Past State Op Undo) → IsPast o place v.shape past (done_ops o place v.committed) → past.size ≡ v.past.size → Stays o place v (record v { past = past })
-    stays_with past is size =
+    pub stays_with : (past : Past State Op Undo) (u : ByPart Op) → IsPast o place v.shape past (done_ops o place v.committed) → past.size ≡ v.past.size → Stays o place v (record v { past = past; by_part = u })
+    stays_with past u is size =
         record {
           shape = refl;
           count = refl;

@@ -1,7 +1,7 @@
 -- Proof machinery: operations of one part that are asked alone, on new objects.
-use Rattle.std.proofs.Common.{◌≡◌, ◌≢◌, ◌↔◌, ◌≤◌, ◌==◌, ℕ, Bool, true, false, IsTrue, List, [], ◌∷◌, ◌++◌, drop, filter, take, length}
+use Rattle.std.proofs.Common.{◌≡◌, ◌≢◌, ◌↔◌, ◌≤◌, ◌-◌, ◌==◌, ℕ, Bool, true, false, IsTrue, List, [], ◌∷◌, ◌++◌, drop, filter, take, length}
 use Rattle.std.proofs.Common.{refl, sym, ap, subst, ◌∙◌, inl, inr, arith, append_assoc}
-use Rattle.std.proofs.lemmas.List.{length-map, length-take, take-append-drop}
+use Rattle.std.proofs.lemmas.List.{length-drop, length-map, length-take, take-append-drop}
 use Rattle.std.proofs.lemmas.List.Elements.{filter-append}
 use Rattle.pp_model.specs.Lists.{In}
 use Rattle.pp_model.proofs.Lists.{from_filter, in_cases, in_left}
@@ -16,7 +16,7 @@ use Rattle.pp_snapshots.specs.declared.past.Made.{Made}
 use Rattle.pp_snapshots.specs.declared.past.Past.{Past}
 use Rattle.pp_snapshots.specs.Costs.{ops_of_part}
 use Rattle.pp_snapshots.specs.Many.{AllFollow, AreAsked, AreOf, AreThere, MayFollow, TellsBehind, ops_made}
-use Rattle.pp_snapshots.specs.Ops.{MayHave, made_first}
+use Rattle.pp_snapshots.specs.Ops.{MayHave, made_first, made_from}
 use Rattle.pp_snapshots.specs.Past.{IsPast, IsSomePast, made_at}
 use Rattle.pp_snapshots.proofs.Apart.{filter_all, part_there, parts_there}
 use Rattle.pp_snapshots.proofs.Asking.{count_is, filter_short, joined_there, one_there}
@@ -28,6 +28,12 @@ pub in_taken : {A : Type 0} (l : List A) (n : ℕ) (a : A) → In a (take n l) �
 in_taken {A} l n a i = subst (λ (w : List A). In a w) (take-append-drop n l) (in_left a (take n l) (drop n l) i)
 
 module _ {Shape State Op Undo : Type 0} (o : Object Shape State Op Undo) (place : Op → ℕ) where
+  -- As many operations are later at a place as there are, but for the first ones.
+  pub later_is : (v : Past State Op Undo) (p n : ℕ) → length (made_from v p n) ≡ length (made_at p v.places.items) - n
+  later_is v p n =
+      length-drop n (ops_made (made_at p v.places.items))
+      ∙ ap (λ (m : ℕ). m - n) (length-map (made_at p v.places.items) (λ (m : Made Op Undo). m.op))
+
   -- No place has more operations than there are.
   pub there_few : (v : Past State Op Undo) → IsSomePast o place v → (p : ℕ) → length (made_at p v.places.items) ≤ v.size
   there_few v s p =

@@ -1,6 +1,18 @@
 -- Proof machinery: what contracts see, and the summary that is shown.
-use Rattle.std.proofs.Common.{◌≡◌, ℕ, Bool, true, false, List, [], ◌∷◌, map, None, Some, refl, sym, ap, subst, ◌∙◌}
+use Rattle.std.proofs.Common.{◌≡◌, ◌==◌, ◌++◌, ℕ, Bool, true, false, List, [], ◌∷◌, filter, map, None, Some, refl, sym, ap, subst, ◌∙◌, append_assoc, append-nil}
+use Rattle.std.proofs.lemmas.List.{map-append}
+use Rattle.std.proofs.lemmas.List.Elements.{filter-append}
+use Rattle.pp_core.specs.Steps.{App, Begin, Cmt, Note, Pull, Push, Quit, Unapp, Unpull, Unpush}
 use Rattle.pp_core.specs.declared.call.Kind.{Kind}
+use Rattle.pp_core.specs.declared.entry.CommittedTx.{CommittedTx}
+use Rattle.pp_core.specs.declared.entry.Item.{Item}
+use Rattle.pp_model.specs.Object.{ops}
+use Rattle.pp_kind.specs.declared.part.Part.{Part}
+use Rattle.pp_records.specs.Records as records
+use Rattle.pp_snapshots.specs.declared.by_part.ByPart.{ByPart}
+use Rattle.pp_snapshots.specs.ByPart.{IsListed, ops_in}
+use Rattle.pp_snapshots.proofs.Listed.{still_listed}
+use Rattle.pp_snapshots.proofs.Manies.{ops_there}
 use Rattle.pp_core.specs.declared.call.Style.TheVariants.{Optimistic}
 use Rattle.pp_model.specs.Sound.{serial_items, serial_ops}
 use Rattle.pp_kind.specs.Object.{IsAllowed, IsLawful, IsPlaced, Object, rules_of, state_after}
@@ -55,6 +67,64 @@ module _ {Shape State Op Undo : Type 0} (o : Object Shape State Op Undo) (place 
   pub keeps_then : (v w : Kept Shape State Op Undo) (r : RunRecord Op) (good : Bool) → Answers o place v r good w → Keeps o place w
   keeps_then v w r true a = a.1.keeps
   keeps_then v w r false a = a.1.keeps
+
+  -- What was applied at each place is what was committed there.
+  in_is : (v : Kept Shape State Op Undo) → Keeps o place v → (q : ℕ) → ops_in v.past q ≡ done_ops o place v.committed q
+  in_is v h q = ops_there o place v.shape v.past (done_ops o place v.committed) h.past q
+
+  -- Of transactions that are committed after others, the operations at a place come after theirs.
+  done_joined : (D E : List (CommittedTx Op)) (q : ℕ) → done_ops o place (D ++ E) q ≡ done_ops o place D q ++ done_ops o place E q
+  done_joined D E q =
+      ap ops (ap (filter (λ p. place p.op == q)) (items_joined D) ∙ filter-append (λ (p : Item Op). place p.op == q) (serial_items D) (serial_items E))
+      ∙ map-append (λ (p : Item Op). p.op) (filter (λ p. place p.op == q) (serial_items D)) (filter (λ p. place p.op == q) (serial_items E))
+    where
+      items_joined : (D : List (CommittedTx Op)) → serial_items (D ++ E) ≡ serial_items D ++ serial_items E
+      items_joined [] = refl
+      items_joined (d ∷ D) = ap (λ (l : List (Item Op)). d.entries ++ l) (items_joined D) ∙ sym (append_assoc d.entries (serial_items D) (serial_items E))
+
+  -- What is listed part by part stays so when more is committed.
+  pub listed_after : (part : Op → Part) (v w : Kept Shape State Op Undo) (u : ByPart Op) (E : List (CommittedTx Op)) → Keeps o place v → Keeps o place w → w.committed ≡ v.committed ++ E
+      → IsListed place part u (ops_in v.past) → IsListed place part u (ops_in w.past)
+  listed_after part v w u E h k is listed =
+      still_listed part place u (ops_in v.past) (ops_in w.past) listed
+      (λ q. (
+        done_ops o place E q,
+        in_is w k q ∙ ap (λ (D : List (CommittedTx Op)). done_ops o place D q) is ∙ done_joined v.committed E q
+            ∙ ap (λ (l : List Op). l ++ done_ops o place E q) (sym (in_is v h q)),
+      ))
+
+  -- A record may commit one more transaction.
+  done_grows : (B : Summary Op) (r : RunRecord Op) → (E : List (CommittedTx Op)) × ((next_summary place Optimistic B r).done ≡ B.done ++ E)
+  done_grows B (records.Plain (Begin t p b)) = ([], sym (append-nil B.done))
+  done_grows B (records.Plain (App t id op)) = ([], sym (append-nil B.done))
+  done_grows B (records.Plain (Unapp t id)) = ([], sym (append-nil B.done))
+  done_grows B (records.Plain (Push t id)) = ([], sym (append-nil B.done))
+  done_grows B (records.Plain (Unpush t id)) = ([], sym (append-nil B.done))
+  done_grows B (records.Plain (Pull t id)) = ([], sym (append-nil B.done))
+  done_grows B (records.Plain (Unpull t id)) = ([], sym (append-nil B.done))
+  done_grows B (records.Plain (Cmt t)) = ([], sym (append-nil B.done))
+  done_grows B (records.Plain (Quit t)) = ([], sym (append-nil B.done))
+  done_grows B (records.Plain (Note t)) = ([], sym (append-nil B.done))
+  done_grows B (records.Op t id op) = ([], sym (append-nil B.done))
+  done_grows B (records.Commit t) = (_, refl)
+  done_grows B (records.Abort t) = ([], sym (append-nil B.done))
+  done_grows B (records.Retry t) = ([], sym (append-nil B.done))
+  done_grows B (records.Refresh t q) = ([], sym (append-nil B.done))
+  done_grows B (records.XBegin t) = ([], sym (append-nil B.done))
+  done_grows B (records.XEnd t) = ([], sym (append-nil B.done))
+  done_grows B (records.XAbort t) = ([], sym (append-nil B.done))
+  done_grows B (records.Depend t source) = ([], sym (append-nil B.done))
+  done_grows B (records.Publish t) = ([], sym (append-nil B.done))
+  done_grows B (records.DropSource t source) = ([], sym (append-nil B.done))
+
+  -- What is listed stays so after a record is answered.
+  pub listed_then : (part : Op → Part) (v w : Kept Shape State Op Undo) (u : ByPart Op) (r : RunRecord Op) (good : Bool) → Keeps o place v → Answers o place v r good w
+      → IsListed place part u (ops_in v.past) → IsListed place part u (ops_in w.past)
+  listed_then part v w u r true h a listed =
+      let more = done_grows (shown [] v) r in
+      listed_after part v w u more.0 h a.1.keeps (ap (λ (B : Summary Op). B.done) (a.1.shown []) ∙ more.1) listed
+  listed_then part v w u r false h a listed =
+      listed_after part v w u [] h a.1.keeps (ap (λ (B : Summary Op). B.done) (a.1.shown []) ∙ sym (append-nil v.committed)) listed
 
   -- the state that is kept is that of the serial run
   module _ (SameAt : ℕ → State → State → Type 0) (laws : IsLawful o) (places : IsPlaced o place SameAt) where

@@ -27,4 +27,5 @@ module _ {Shape State Op Undo : Type 0} where
     pub ids : w.ids ≡ v.ids
     pub shape : w.shape ≡ v.shape
     pub past : w.past ≡ v.past
+    pub by_part : w.by_part ≡ v.by_part
     pub count : w.count ≡ v.count + 1

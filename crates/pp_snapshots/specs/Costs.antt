@@ -1,6 +1,6 @@
 -- Meaning: what taking a record of an optimistic run costs at most, and which records of a run are
 -- tried, by the summaries.
-use Rattle.std.specs.Prelude.{◌≡◌, ◌⊎◌, ◌&&◌, ◌+◌, ◌*◌, ◌/◌, ℕ, Bool, zero, nat_eq, nat_le, cond}
+use Rattle.std.specs.Prelude.{◌≡◌, ◌⊎◌, ◌&&◌, ◌+◌, ◌*◌, ℕ, Bool, zero, nat_eq, nat_le, cond}
 use Rattle.std.specs.Prelude.{List, [], ◌∷◌, drop, filter, length, take, Option}
 use Rattle.std.specs.Prelude.{None, Some}
 use Rattle.std.specs.List.{list_any}
@@ -56,18 +56,13 @@ tried_behind place B x q =
 abbrev pub first_at : {Op : Type 0} → (Op → ℕ) → Summary Op → OpenSummary Op → ℕ → List Op
 first_at place B x q = take (tried_behind place B x q) (ops (serial_at place q B.done))
 
--- An operation of whose part some are later is tried on new objects if the snapshot is not much longer
--- than what is later, and has no more operations of its part than are later.
-abbrev pub tries_anew : ℕ → ℕ → ℕ → Bool
-tries_anew seen first later = nat_le (seen / 32) later && nat_le first later
-
--- How many operations are tried with an operation of whose part some are later. On new objects they are
--- those of its part in the snapshot, and the own ones of it. Otherwise they are all later ones at its
--- place, and the own ones there.
-abbrev pub tried_missed : {Op : Type 0} → (Op → ℕ) → (Op → Part) → Op → ℕ → List Op → List Op →
+-- How many operations are tried with an operation of whose part some are later. If no more of its part
+-- are in the snapshot than are later, they are these, and the own ones of its part. Otherwise they are
+-- all later ones at its place, and the own ones there.
+abbrev pub tried_missed : {Op : Type 0} → (Op → ℕ) → (Op → Part) → Op → List Op → List Op →
     List Op → ℕ
-tried_missed place part op seen first later own =
-    cond (tries_anew seen (length (ops_of_part part op first)) (length later))
+tried_missed place part op first later own =
+    cond (nat_le (length (ops_of_part part op first)) (length later))
     (length (ops_of_part part op first) + length (ops_of_part part op own))
     (length later + length (ops_at place (place op) own))
 
@@ -78,8 +73,8 @@ abbrev pub tried_with : {Op : Type 0} → (Op → ℕ) → (Op → Part) → (Op
 tried_with place part silent B x op =
     cond (silent op) 0
     (cond (has_part part op (later_at place B x (place op)))
-    (tried_missed place part op (tried_behind place B x (place op)) (first_at place B x (place op))
-    (later_at place B x (place op)) (local_ops x.own))
+    (tried_missed place part op (first_at place B x (place op)) (later_at place B x (place op))
+    (local_ops x.own))
     (length (ops_of_part part op (local_ops x.own))))
 
 -- How many operations are tried for a refresh of an object: none, if no own operation there is of the

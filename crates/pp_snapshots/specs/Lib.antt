@@ -1,6 +1,7 @@
 pub mod Past
 pub mod Many
 pub mod Shown
+pub mod ByPart
 pub mod Held
 pub mod Costs
 pub mod Moving

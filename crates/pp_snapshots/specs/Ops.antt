@@ -96,6 +96,7 @@ module _ {Shape State Op Undo : Type 0} (o : Object Shape State Op Undo) where
     pub shape : w.shape ≡ v.shape
     pub threads : w.threads.keys ≡ v.threads.keys
     pub past : w.past ≡ v.past
+    pub by_part : w.by_part ≡ v.by_part
     pub committed : w.committed ≡ v.committed
     pub count : w.count ≡ v.count + 1
 
@@ -112,7 +113,7 @@ made_first v q n = take n (ops_made (made_at q v.places.items))
 abbrev pub missed_after : {State Op Undo : Type 0} → (Op → ℕ) → (Op → Part) → Past State Op Undo →
     ℕ → List Op → Op → ℕ
 missed_after place part v n own op =
-    tried_missed place part op n (made_first v (place op) n) (made_from v (place op) n) own
+    tried_missed place part op (made_first v (place op) n) (made_from v (place op) n) own
 
 -- So many whether one is or not: none if its call has no result, and else, if none is, the own ones of
 -- its part.

@@ -17,6 +17,7 @@ module _ {Shape State Op Undo : Type 0} where
     pub committed : w.committed ≡ v.committed ++ record { name = z.tx; entries = z.items } ∷ []
     pub shape : w.shape ≡ v.shape
     pub past : w.past ≡ v.past
+    pub by_part : w.by_part ≡ v.by_part
     pub count : w.count ≡ v.count
 
 module _ {Shape State Op Undo : Type 0} (o : Object Shape State Op Undo) (place : Op → ℕ) where

@@ -1,42 +1,15 @@
 //! Operations of one part that are asked alone, on new objects.
-ghost use Rattle.std.specs.Prelude.{◌≡◌, ◌+◌, ◌*◌, ◌≤◌, ◌↔◌, ℕ, IfOk, IsTrue, cond, length};
+ghost use Rattle.std.specs.Prelude.{◌+◌, ◌*◌, ◌≤◌, ◌↔◌, ℕ, IfOk, IsTrue, cond, length};
 ghost use Rattle.pp_kind.specs.Object.{IsAllowed};
 ghost use Rattle.pp_kind.specs.declared.range.TheConstants.{MOST_OPERATIONS};
-ghost use Rattle.pp_snapshots.specs.Costs.{ops_of_part};
 ghost use Rattle.pp_snapshots.specs.Many.{AreOf, AreThere};
-ghost use Rattle.pp_snapshots.specs.Ops.{made_first};
 
 use crate::many::apply_all;
-use crate::past::{Past, no_past};
+use crate::past::no_past;
 use pp_core::{OutOfMemory, Ticks};
-use pp_kind::{Parted, Placed};
+use pp_kind::Placed;
 use std::alloc::Global;
 use std::sync::ledger::Ledger;
-
-/// The operations of the part of another among the first ones that were applied at its place, in
-/// order. The only error is out of memory.
-pub fn first_of_part<S: Parted>(
-    past: &Past<S::State, S::Op, S::Undo>,
-    count: usize,
-    op: &S::Op,
-) -> Result<Vec<S::Op>, OutOfMemory>
-    ensures { IfOk result (λ l. l.items
-        ≡ ops_of_part S.part_of op.now (made_first past.now (S.place_of op.now) count)) }
-{
-    let mut first = Vec::new(past.alloc);
-    let Some(done) = past.places.get(usize::from(S::place(op))) else {
-        return Ok(first);
-    };
-    let part = S::part(op);
-    let count = count.min(done.made.len());
-    for k in 0..count {
-        let made = &done.made[k];
-        if S::part(&made.op) == part {
-            first.push(made.op)?;
-        }
-    }
-    Ok(first)
-}
 
 /// Whether these operations, all at one place, are allowed, one after another. The only error is out
 /// of memory.

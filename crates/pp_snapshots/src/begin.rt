@@ -1,5 +1,5 @@
 //! A begin record.
-ghost use Rattle.std.specs.Prelude.{◌≡◌, ◌<◌, [], IfOk, option_map};
+ghost use Rattle.std.specs.Prelude.{◌≡◌, ◌<◌, [], IfOk, OnOk, option_map};
 ghost use Rattle.pp_body.specs.Walks.{HasTaken};
 ghost use Rattle.pp_core.specs.Steps.{Begin};
 ghost use Rattle.pp_core.specs.Trees.{IsWithinLimits, tree};
@@ -48,8 +48,9 @@ pub fn begin<S: Placed>(
     requires keeps { Keeps S.object S.place_of parts.old }
     requires within { IsWithinLimits (option_map tree body.now) }
     requires few { parts.old.count < 4_294_967_295 }
-    ensures { IfOk result (λ answer. Answers S.object S.place_of parts.old
+    ensures answers { IfOk result (λ answer. Answers S.object S.place_of parts.old
         (Plain (Begin tx.now thread.now (option_map tree body.now))) answer parts.new) }
+    ensures index { OnOk result (parts.new.by_part ≡ parts.old.by_part) }
 {
     if parts.slots.contains_key(tx) {
         return Ok(false);

@@ -68,6 +68,7 @@ pub fn commit<S: Placed, L: Ledger>(
     ensures rises { ticks.old ≤ ticks.new }
     ensures bound { ticks.new ≤ ticks.old
         + open_most tx.now parts.old (λ x. 2 * length x.own) }
+    ensures index { OnOk result (parts.new.by_part ≡ parts.old.by_part) }
 {
     let Some(it) = find_open(&parts.slots, tx) else {
         return Ok(false);

@@ -3,6 +3,7 @@
 
 mod anew;
 mod begin;
+mod by_part;
 mod commit;
 mod laws;
 mod many;
@@ -16,6 +17,7 @@ mod steps;
 mod take;
 mod undo;
 
+pub use by_part::{ByPart, Numbered, PartOps};
 pub use laws::{taken_law, tried_costs_law};
 pub use op::{count_at, own_at, seen_at};
 pub use parts::Parts;

@@ -1,6 +1,5 @@
 //! An op record.
 ghost use Rattle.std.specs.Prelude.{◌≡◌, ◌==◌, ◌&&◌, ◌+◌, ◌*◌, ◌<◌, ◌≤◌, ◌++◌, ◌∷◌, [], not, cond, nat_eq, zero};
-ghost use Rattle.std.specs.Prelude.{◌/◌, nat_le};
 ghost use Rattle.std.specs.Prelude.{IfOk, IsTrue, OnOk, is_some, length, false, true};
 ghost use Rattle.std.specs.List.{list_any};
 ghost use Rattle.pp_body.specs.Walks.{HasTaken, MayTake};
@@ -9,6 +8,7 @@ ghost use Rattle.pp_model.specs.Object.{ops};
 ghost use Rattle.pp_summary.specs.Held.{IsOpAsked};
 ghost use Rattle.pp_summary.specs.Shown.{calls_of};
 ghost use Rattle.pp_records.specs.Records.{Op};
+ghost use Rattle.pp_snapshots.specs.ByPart.{IsListed, IsListedOf, ops_in};
 ghost use Rattle.pp_snapshots.specs.Costs.{has_part, ops_of_part};
 ghost use Rattle.pp_snapshots.specs.Many.{AreAsked, TellsBehind};
 ghost use Rattle.pp_snapshots.specs.Moving.{Answers};
@@ -18,7 +18,8 @@ ghost use Rattle.pp_snapshots.specs.Past.{IsSomePast, made_at};
 ghost use Rattle.pp_kind.specs.declared.range.TheConstants.{MOST_OPERATIONS};
 ghost use Rattle.pp_snapshots.specs.Shown.{Keeps, seen_in};
 
-use crate::anew::{are_allowed, first_of_part};
+use crate::anew::are_allowed;
+use crate::by_part::{ByPart, first_of_part, misses_part};
 use crate::many::{append, may_follow};
 use crate::parts::Parts;
 use crate::past::{Done, Past};
@@ -97,23 +98,6 @@ fn own_of_part<S: Parted>(
         }
     }
     Ok(of_part)
-}
-
-/// Whether one of the operations that were applied at the place of another, but for the first ones, is
-/// of its part.
-fn misses_part<S: Parted>(past: &Past<S::State, S::Op, S::Undo>, from: usize, op: &S::Op) -> bool
-    ensures { result ≡ has_part S.part_of op.now (made_from past.now (S.place_of op.now) from) }
-{
-    let Some(done) = past.places.get(usize::from(S::place(op))) else {
-        return false;
-    };
-    let part = S::part(op);
-    for k in from..done.made.len() {
-        if S::part(&done.made[k].op) == part {
-            return true;
-        }
-    }
-    false
 }
 
 /// After how many committed operations at its place an operation is tried: after those of the
@@ -232,26 +216,12 @@ fn with_own<S: Parted>(
     Ok(asked)
 }
 
-/// Whether so many operations are looked at sooner than the later ones are taken back. One is taken back
-/// and applied again in the time in which 32 are looked at.
-fn is_near(seen: usize, later: usize) -> bool
-    ensures { result ≡ nat_le (seen / 32) later }
-{
-    seen / 32 <= later
-}
-
-/// Whether they are no more than the later ones.
-fn are_few(first: usize, later: usize) -> bool
-    ensures { result ≡ nat_le first later }
-{
-    first <= later
-}
-
-/// The same, where later operations may be of the part of this one. If few of the first ones are of
-/// its part, these, the own ones of its part, and it are tried on new objects. Otherwise all later ones
-/// are taken back meanwhile. The only error is out of memory.
+/// The same, where later operations may be of the part of this one. If no more of the first ones are of
+/// its part than are later, these, the own ones of its part, and it are tried on new objects. Otherwise
+/// all later ones are taken back meanwhile. The only error is out of memory.
 fn ask_missed<S: PartByPart, L: Ledger>(
     shape: &S::Shape,
+    by_part: &ByPart<S::Op>,
     past: &mut Past<S::State, S::Op, S::Undo>,
     own: &[Item<S::Op>],
     seen: usize,
@@ -259,6 +229,7 @@ fn ask_missed<S: PartByPart, L: Ledger>(
     ticks: &mut Ticks<L>,
 ) -> Result<bool, OutOfMemory>
     requires some { IsSomePast S.object S.place_of past.old }
+    requires listed { IsListedOf S.place_of S.part_of by_part.now (ops_in past.old) op.now }
     requires same { S.object.shape past.old.state ≡ shape.now }
     requires own { AreAsked S.object past.old (ops own.now) }
     requires asked { IsOpAsked S.object (S.object.shape past.old.state) op.now }
@@ -274,13 +245,9 @@ fn ask_missed<S: PartByPart, L: Ledger>(
     ensures least { IfOk result (λ good. IsTrue good → ticks.old < ticks.new) }
 {
     let later = count_at(&past.places, S::place(op)).saturating_sub(seen);
-    if !is_near(seen, later) {
+    let Some(first) = first_of_part::<S>(by_part, seen, op, later)? else {
         return ask_place::<S, L>(past, own, seen, op, ticks);
-    }
-    let first = first_of_part::<S>(past, seen, op)?;
-    if !are_few(first.len(), later) {
-        return ask_place::<S, L>(past, own, seen, op, ticks);
-    }
+    };
     let asked = with_own::<S>(past.alloc, first, own, op)?;
     are_allowed::<S, L>(past.alloc, shape, &asked, ticks)
 }
@@ -289,6 +256,7 @@ fn ask_missed<S: PartByPart, L: Ledger>(
 /// error is out of memory.
 fn ask<S: PartByPart, L: Ledger>(
     shape: &S::Shape,
+    by_part: &mut ByPart<S::Op>,
     past: &mut Past<S::State, S::Op, S::Undo>,
     own: &[Item<S::Op>],
     seen: usize,
@@ -296,6 +264,7 @@ fn ask<S: PartByPart, L: Ledger>(
     ticks: &mut Ticks<L>,
 ) -> Result<bool, OutOfMemory>
     requires some { IsSomePast S.object S.place_of past.old }
+    requires listed { IsListed S.place_of S.part_of by_part.old (ops_in past.old) }
     requires same { S.object.shape past.old.state ≡ shape.now }
     requires own { AreAsked S.object past.old (ops own.now) }
     requires asked { IsOpAsked S.object (S.object.shape past.old.state) op.now }
@@ -304,6 +273,7 @@ fn ask<S: PartByPart, L: Ledger>(
     ensures tells { IfOk result (λ good. TellsBehind S.object S.place_of past.old
         (S.place_of op.now) seen (ops_at S.place_of (S.place_of op.now) (ops own.now)
         ++ op.now ∷ []) good past.new) }
+    ensures listed { OnOk result (IsListed S.place_of S.part_of by_part.new (ops_in past.old)) }
     ensures size { OnOk result (past.new.size ≡ past.old.size) }
     ensures rises { ticks.old ≤ ticks.new }
     ensures bound { ticks.new ≤ ticks.old
@@ -313,8 +283,8 @@ fn ask<S: PartByPart, L: Ledger>(
 {
     if S::is_silent(op) {
         ask_silent::<S, L>(past, own, seen, op, ticks)
-    } else if misses_part::<S>(past, seen, op) {
-        ask_missed::<S, L>(shape, past, own, seen, op, ticks)
+    } else if misses_part::<S>(by_part, past, seen, op)? {
+        ask_missed::<S, L>(shape, by_part, past, own, seen, op, ticks)
     } else {
         ask_part::<S, L>(past, own, seen, op, ticks)
     }
@@ -326,12 +296,14 @@ pub fn may_op<S: PartByPart, L: Ledger>(
     it: &OpenTx<Items<S::Op>>,
     ids: &IdSet,
     shape: &S::Shape,
+    by_part: &mut ByPart<S::Op>,
     past: &mut Past<S::State, S::Op, S::Undo>,
     id: u32,
     op: &S::Op,
     ticks: &mut Ticks<L>,
 ) -> Result<Option<usize>, OutOfMemory>
     requires some { IsSomePast S.object S.place_of past.old }
+    requires listed { IsListed S.place_of S.part_of by_part.old (ops_in past.old) }
     requires same { S.object.shape past.old.state ≡ shape.now }
     requires taken { HasTaken it.now.walk (calls_of S.object it.now.own) }
     requires own { AreAsked S.object past.old (ops it.now.own) }
@@ -340,6 +312,7 @@ pub fn may_op<S: PartByPart, L: Ledger>(
     requires few { past.old.size + length it.now.own < MOST_OPERATIONS }
     ensures tells { IfOk result (λ found. TellsOp S.object S.place_of past.old ids.now id op.now
         it.now found past.new) }
+    ensures listed { OnOk result (IsListed S.place_of S.part_of by_part.new (ops_in past.old)) }
     ensures size { OnOk result (past.new.size ≡ past.old.size) }
     ensures rises { ticks.old ≤ ticks.new }
     ensures bound { ticks.new ≤ ticks.old
@@ -356,7 +329,7 @@ pub fn may_op<S: PartByPart, L: Ledger>(
     let own = it.own.as_slice();
     let all = count_at(&past.places, place);
     let seen = snapshot(seen_at(&it.seen, place), has_own_at::<S>(own, place), all);
-    if !ask::<S, L>(shape, past, own, seen, op, ticks)? {
+    if !ask::<S, L>(shape, by_part, past, own, seen, op, ticks)? {
         return Ok(None);
     }
     Ok(Some(seen))
@@ -408,10 +381,13 @@ pub fn do_op<S: PartByPart, L: Ledger>(
     ticks: &mut Ticks<L>,
 ) -> Result<bool, OutOfMemory>
     requires keeps { Keeps S.object S.place_of parts.old }
+    requires listed { IsListed S.place_of S.part_of parts.old.by_part (ops_in parts.old.past) }
     requires asked { IsOpAsked S.object parts.old.shape op.now }
     requires few { parts.old.count < 4_294_967_295 }
     ensures answers { IfOk result (λ good. Answers S.object S.place_of parts.old
         (Op tx.now id op.now) good parts.new) }
+    ensures listed { OnOk result
+        (IsListed S.place_of S.part_of parts.new.by_part (ops_in parts.old.past)) }
     ensures rises { ticks.old ≤ ticks.new }
     ensures bound { ticks.new ≤ ticks.old
         + open_most tx.now parts.old (λ x.
@@ -421,7 +397,16 @@ pub fn do_op<S: PartByPart, L: Ledger>(
     let Some(it) = find_open(&parts.slots, tx) else {
         return Ok(false);
     };
-    let found = may_op::<S, L>(it, &parts.ids, &parts.shape, &mut parts.past, id, op, ticks)?;
+    let found = may_op::<S, L>(
+        it,
+        &parts.ids,
+        &parts.shape,
+        &mut parts.by_part,
+        &mut parts.past,
+        id,
+        op,
+        ticks,
+    )?;
     let Some(seen) = found else {
         return Ok(false);
     };

@@ -1,4 +1,5 @@
 //! What decides an optimistic run.
+use crate::by_part::ByPart;
 use crate::past::Past;
 use indexmap::IndexSet;
 use pp_core::{Committed, IdSet, Items, Name};
@@ -18,6 +19,8 @@ pub struct Parts<H, T: Drop, O: Copy, U: Drop> {
     pub threads: IndexSet<Name>,
     pub ids: IdSet,
     pub past: Past<T, O, U>,
+    /// What was applied, part by part.
+    pub by_part: ByPart<O>,
     pub committed: Committed<O>,
     /// How many records were taken.
     pub count: u64,

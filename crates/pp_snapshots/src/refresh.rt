@@ -150,6 +150,7 @@ pub fn refresh<S: PartByPart, L: Ledger>(
     ensures bound { ticks.new ≤ ticks.old
         + open_most tx.now parts.old (λ x.
         refresh_most S.place_of S.part_of parts.old.past x place) }
+    ensures index { OnOk result (parts.new.by_part ≡ parts.old.by_part) }
 {
     let Some(it) = find_open(&parts.slots, tx) else {
         return Ok(false);

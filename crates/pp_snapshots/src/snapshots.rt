@@ -21,7 +21,7 @@ ghost use Rattle.pp_snapshots.specs.Shown.{Keeps};
 use crate::parts::Parts;
 use crate::{start, steps, take};
 use pp_core::{Committed, Items, Name, OutOfMemory, Ticks};
-use pp_kind::Placed;
+use pp_kind::Parted;
 use pp_kind_parts::PartByPart;
 use pp_records::RunRecord;
 use std::alloc::Global;
@@ -33,12 +33,13 @@ use std::sync::ledger::Ledger;
 /// transactions, and of each open transaction its own operations, how far they have come in its body,
 /// and its snapshots.
 #[derive(Drop)]
-pub struct Snapshots<S: Placed> {
+pub struct Snapshots<S: Parted> {
     parts: Box<Parts<S::Shape, S::State, S::Op, S::Undo>>,
 }
 
-impl<S: Placed> Model for Snapshots<S> {
+impl<S: Parted> Model for Snapshots<S> {
     ghost use Rattle.pp_core.specs.TreeCodes.{tree_code};
+    ghost use Rattle.pp_snapshots.specs.ByPart.{IsListed, ops_in};
     ghost use Rattle.pp_snapshots.specs.Held.{Taken};
     ghost use Rattle.pp_snapshots.specs.Moving.{as_taken};
     ghost use Rattle.pp_snapshots.specs.Shown.{Keeps};
@@ -50,10 +51,11 @@ impl<S: Placed> Model for Snapshots<S> {
 
     ghost view = { λ a. as_taken a.parts.value };
 
-    ghost invariant = { λ a. Keeps S.object S.place_of a.parts.value };
+    ghost invariant = { λ a. Keeps S.object S.place_of a.parts.value
+        × IsListed S.place_of S.part_of a.parts.value.by_part (ops_in a.parts.value.past) };
 }
 
-impl<S: Placed> Snapshots<S> {
+impl<S: Parted> Snapshots<S> {
     /// A run with no transaction. The only error is out of memory.
     pub fn new(alloc: Global, shape: S::Shape) -> Result<Self, OutOfMemory>
         ensures { IfOk result (λ s. s ≡ first_taken shape None) }

@@ -8,29 +8,32 @@ ghost use Rattle.pp_model.specs.Config.{start_with};
 ghost use Rattle.pp_model.specs.Object.{HasDistinctIds};
 ghost use Rattle.pp_summary.specs.Held.{IsItemAsked};
 ghost use Rattle.pp_snapshots.specs.Held.{first_taken};
+ghost use Rattle.pp_snapshots.specs.ByPart.{IsListed, ops_in};
 ghost use Rattle.pp_snapshots.specs.Moving.{IsNew, as_taken};
 ghost use Rattle.pp_snapshots.specs.Shown.{Keeps};
 ghost use Rattle.pp_snapshots.specs.Starting.{PutsIn, StartAnswers};
 
+use crate::by_part::nothing_listed;
 use crate::commit::ops_of;
 use crate::many::apply_all;
 use crate::parts::Parts;
 use crate::past::no_past;
 use indexmap::{IndexMap, IndexSet};
 use pp_core::{Committed, CommittedTx, IdSet, Item, Items, Name, OutOfMemory, Ticks};
-use pp_kind::Placed;
+use pp_kind::{Parted, Placed};
 use pp_summary::put_new;
 use std::alloc::Global;
 use std::sync::ledger::Ledger;
 
 /// A run with no transaction. The only error is out of memory.
-pub fn no_run<S: Placed>(
+pub fn no_run<S: Parted>(
     alloc: Global,
     shape: S::Shape,
 ) -> Result<Parts<S::Shape, S::State, S::Op, S::Undo>, OutOfMemory>
     ensures new { IfOk result (IsNew S.place_of) }
     ensures keeps { IfOk result (Keeps S.object S.place_of) }
     ensures taken { IfOk result (λ v. as_taken v ≡ first_taken shape None) }
+    ensures listed { IfOk result (λ v. IsListed S.place_of S.part_of v.by_part (ops_in v.past)) }
 {
     let past = no_past::<S>(alloc, &shape)?;
     Ok(Parts {
@@ -40,6 +43,7 @@ pub fn no_run<S: Placed>(
         threads: IndexSet::new(alloc),
         ids: IdSet::new(alloc),
         past,
+        by_part: nothing_listed(alloc),
         committed: Committed::new(alloc),
         count: 0,
     })
@@ -102,6 +106,7 @@ pub fn start<S: Placed, L: Ledger>(
     ensures repeated { (HasDistinctIds items.now → ⊥) → ticks.new ≡ ticks.old }
     ensures rises { ticks.old ≤ ticks.new }
     ensures bound { ticks.new ≤ ticks.old + 2 * length items.now }
+    ensures index { OnOk result (parts.new.by_part ≡ parts.old.by_part) }
 {
     let Some(ids) = distinct_ids(parts.alloc, items.as_slice())? else {
         return Ok(false);

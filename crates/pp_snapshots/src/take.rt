@@ -1,11 +1,12 @@
 //! Taking a record.
-ghost use Rattle.std.specs.Prelude.{◌+◌, ◌≤◌, ◌<◌, ◌∷◌, [], IfOk, IsTrue};
+ghost use Rattle.std.specs.Prelude.{◌+◌, ◌≤◌, ◌<◌, ◌∷◌, [], IfOk, IsTrue, OnOk, ◌≡◌};
 ghost use Rattle.pp_core.specs.Steps.{meaning};
 ghost use Rattle.pp_core.specs.declared.call.Style.TheVariants.{Optimistic};
 ghost use Rattle.pp_records.specs.Expansions.{IsOfStyle};
 ghost use Rattle.pp_records.specs.Records.{Plain, record_meaning};
 ghost use Rattle.pp_summary.specs.Held.{IsRecordAsked, IsStepAsked};
 ghost use Rattle.pp_summary.specs.Sums.{count_ops};
+ghost use Rattle.pp_snapshots.specs.ByPart.{IsListed, ops_in};
 ghost use Rattle.pp_snapshots.specs.Moving.{Answers};
 ghost use Rattle.pp_snapshots.specs.Ops.{kept_most};
 ghost use Rattle.pp_snapshots.specs.Shown.{Keeps};
@@ -31,8 +32,9 @@ fn take_step<S: Placed>(
     requires keeps { Keeps S.object S.place_of parts.old }
     requires asked { IsStepAsked (meaning step.now) }
     requires few { parts.old.count < 4_294_967_295 }
-    ensures { IfOk result (λ good. Answers S.object S.place_of parts.old
+    ensures answers { IfOk result (λ good. Answers S.object S.place_of parts.old
         (Plain (meaning step.now)) good parts.new) }
+    ensures index { OnOk result (parts.new.by_part ≡ parts.old.by_part) }
 {
     match step {
         Step::Begin { tx, thread, body } => begin::<S>(parts, tx, thread, body),
@@ -56,11 +58,14 @@ pub fn take<S: PartByPart, L: Ledger>(
     ticks: &mut Ticks<L>,
 ) -> Result<bool, OutOfMemory>
     requires keeps { Keeps S.object S.place_of parts.old }
+    requires listed { IsListed S.place_of S.part_of parts.old.by_part (ops_in parts.old.past) }
     requires style { IsOfStyle Optimistic (record_meaning recorded.now) }
     requires asked { IsRecordAsked S.object parts.old.shape (record_meaning recorded.now) }
     requires few { parts.old.count < 4_294_967_295 }
     ensures answers { IfOk result (λ good.
         Answers S.object S.place_of parts.old (record_meaning recorded.now) good parts.new) }
+    ensures listed { OnOk result
+        (IsListed S.place_of S.part_of parts.new.by_part (ops_in parts.old.past)) }
     ensures rises { ticks.old ≤ ticks.new }
     ensures bound { ticks.new ≤ ticks.old
         + kept_most S.place_of S.part_of S.silent_of parts.old (record_meaning recorded.now) }

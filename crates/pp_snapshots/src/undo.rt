@@ -40,7 +40,8 @@ fn anew<S: Placed>(alloc: Global, it: OpenTx<Items<S::Op>>) -> OpenTx<Items<S::O
 pub fn abort<S: Placed>(parts: &mut Parts<S::Shape, S::State, S::Op, S::Undo>, tx: &Name) -> bool
     requires keeps { Keeps S.object S.place_of parts.old }
     requires few { parts.old.count < 4_294_967_295 }
-    ensures { Answers S.object S.place_of parts.old (Abort tx.now) result parts.new }
+    ensures answers { Answers S.object S.place_of parts.old (Abort tx.now) result parts.new }
+    ensures index { parts.new.by_part ≡ parts.old.by_part }
 {
     let Some(it) = take_out(&mut parts.slots, tx) else {
         return false;
@@ -54,7 +55,8 @@ pub fn abort<S: Placed>(parts: &mut Parts<S::Shape, S::State, S::Op, S::Undo>, t
 pub fn retry<S: Placed>(parts: &mut Parts<S::Shape, S::State, S::Op, S::Undo>, tx: &Name) -> bool
     requires keeps { Keeps S.object S.place_of parts.old }
     requires few { parts.old.count < 4_294_967_295 }
-    ensures { Answers S.object S.place_of parts.old (Retry tx.now) result parts.new }
+    ensures answers { Answers S.object S.place_of parts.old (Retry tx.now) result parts.new }
+    ensures index { parts.new.by_part ≡ parts.old.by_part }
 {
     let Some(it) = take_out(&mut parts.slots, tx) else {
         return false;

@@ -4,20 +4,20 @@ use Rattle.pp_snapshots.proofs.Moving.{stays_same}
 use Rattle.pp_snapshots.proofs.OnBegin.{begun_good, begun_moves, begun_name, busy_thread}
 use Rattle.pp_snapshots.proofs.begin.begin.Goals as goal
 
-pub returns-then-contains_key : goal.returns-then-contains_key
-returns-then-contains_key g c = (
+pub returns-then-contains_key-clause-answers : goal.returns-then-contains_key-clause-answers
+returns-then-contains_key-clause-answers g c = (
   (λ ks k. k.0 (begun_name g.S.Spec.object g.S.Placed.place_of g.S.Placed.SameAt g.met.S.Spec.lawful g.met.S.Placed.placed c.args.parts.now c.requires.keeps c.args.tx.now (sym c.contains_key.ensures ∙ c.if-contains_key.true))),
   stays_same g.S.Spec.object g.S.Placed.place_of g.S.Placed.SameAt g.met.S.Spec.lawful g.met.S.Placed.placed c.args.parts.now c.requires.keeps,
 )
 
-pub returns-then-contains : goal.returns-then-contains
-returns-then-contains g c = (
+pub returns-then-contains-clause-answers : goal.returns-then-contains-clause-answers
+returns-then-contains-clause-answers g c = (
   (λ ks k. busy_thread g.S.Spec.object g.S.Placed.place_of g.S.Placed.SameAt g.met.S.Spec.lawful g.met.S.Placed.placed c.args.parts.now c.requires.keeps c.args.thread.now (sym c.contains.ensures ∙ c.if-contains.true) k.1),
   stays_same g.S.Spec.object g.S.Placed.place_of g.S.Placed.SameAt g.met.S.Spec.lawful g.met.S.Placed.placed c.args.parts.now c.requires.keeps,
 )
 
-pub returns : goal.returns
-returns g c =
+pub returns-clause-answers : goal.returns-clause-answers
+returns-clause-answers g c =
     let new = sym c.contains_key.ensures ∙ c.if-contains_key.false in
     let free = sym c.contains.ensures ∙ c.if-contains.false in (
       begun_good g.S.Spec.object g.S.Placed.place_of g.S.Placed.SameAt g.met.S.Spec.lawful g.met.S.Placed.placed c.args.parts.now c.requires.keeps c.args.tx.now c.args.thread.now (option_map tree c.args.body.now) new free,

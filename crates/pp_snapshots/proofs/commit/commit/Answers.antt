@@ -67,7 +67,7 @@ returns-then-not-branch-clause-answers g c =
     let told = refused v.shape (done_ops o place v.committed) c.requires.keeps.past in
     let size = rw c.if-not-branch.true at c.in_ok-apply_all.ensures.size in (
       (λ ks k. told.0 (subst (MayFollow o place v.shape (done_ops o place v.committed)) (sym all) (may_of o place g.S.Placed.SameAt g.met.S.Spec.lawful g.met.S.Placed.placed v c.requires.keeps c.args.tx.now x found ks k))),
-      stays_with o place g.S.Placed.SameAt g.met.S.Spec.lawful g.met.S.Placed.placed v c.requires.keeps c.apply_all.new.past told.1 (omega (arith, size)),
+      stays_with o place g.S.Placed.SameAt g.met.S.Spec.lawful g.met.S.Placed.placed v c.requires.keeps c.apply_all.new.past v.by_part told.1 (omega (arith, size)),
     )
 
 pub returns-clause-answers : goal.returns-clause-answers

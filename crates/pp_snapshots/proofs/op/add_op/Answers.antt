@@ -25,6 +25,7 @@ returns g c =
       shape = refl;
       threads = refl;
       past = refl;
+      by_part = refl;
       committed = refl;
       count = refl;
     }

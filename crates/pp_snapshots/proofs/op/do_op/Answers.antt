@@ -3,6 +3,7 @@ use Rattle.pp_laws_summary.specs.Summary.{SummaryOp}
 use Rattle.pp_core.specs.declared.call.Style.TheVariants.{Optimistic}
 use Rattle.pp_kind.specs.Object.{rules_of}
 use Rattle.std.proofs.lemmas.Option.{same_Some}
+use Rattle.pp_snapshots.specs.ByPart.{IsListed, ops_in}
 use Rattle.pp_snapshots.specs.Ops.{IsGrown}
 use Rattle.pp_snapshots.specs.Past.{IsPast}
 use Rattle.pp_snapshots.specs.Shown.{done_ops, shown}
@@ -63,7 +64,7 @@ returns-in_default-found-clause-answers g c =
     let tells = rw c.in_default-found.is at c.in_ok-found.ensures.tells in
     let told = tells v.shape (done_ops o place v.committed) keeps.past in (
       (λ ks k. told.0 (from_good o place g.S.Placed.SameAt g.met.S.Spec.lawful g.met.S.Placed.placed v keeps c.args.tx.now c.in-Some.it.now (sym c.in-Some.ensures) c.args.id c.args.op.now ks k)),
-      stays_with o place g.S.Placed.SameAt g.met.S.Spec.lawful g.met.S.Placed.placed v keeps c.may_op.new.past told.1 c.in_ok-found.ensures.size,
+      stays_with o place g.S.Placed.SameAt g.met.S.Spec.lawful g.met.S.Placed.placed v keeps c.may_op.new.past c.may_op.new.by_part told.1 c.in_ok-found.ensures.size,
     )
 
 pub add_op-requires : goal.add_op-requires
@@ -104,3 +105,7 @@ returns-clause-answers g c =
           added.slots added.ids added.shape added.threads
           (subst (λ z. IsPast o place v.shape z (done_ops o place v.committed)) (sym added.past) told.1) (ap (λ z. z.size) added.past ∙ c.in_ok-found.ensures.size) added.committed added.count,
     )
+
+pub returns-clause-listed : goal.returns-clause-listed
+returns-clause-listed g c =
+    subst (λ b. IsListed g.S.Placed.place_of g.S.Parted.part_of b (ops_in c.args.parts.now.past)) (sym c.in_ok-add_op.ensures.by_part) c.in_ok-found.ensures.listed

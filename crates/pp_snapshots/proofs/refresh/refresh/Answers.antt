@@ -46,7 +46,7 @@ returns-then-not-branch-clause-answers g c =
     let tells = rw c.if-not-branch.true at c.in_ok-may_refresh.ensures.tells in
     let told = tells v.shape (done_ops o place v.committed) c.requires.keeps.past in (
       refresh_not o place g.S.Placed.SameAt g.met.S.Spec.lawful g.met.S.Placed.placed v c.requires.keeps c.args.tx.now c.in-Some.it.now (sym c.in-Some.ensures) c.args.place told.0,
-      stays_with o place g.S.Placed.SameAt g.met.S.Spec.lawful g.met.S.Placed.placed v c.requires.keeps c.may_refresh.new.past told.1 c.in_ok-may_refresh.ensures.size,
+      stays_with o place g.S.Placed.SameAt g.met.S.Spec.lawful g.met.S.Placed.placed v c.requires.keeps c.may_refresh.new.past v.by_part told.1 c.in_ok-may_refresh.ensures.size,
     )
 
 pub returns-clause-answers : goal.returns-clause-answers

@@ -27,6 +27,7 @@ returns g c =
       ids = refl;
       shape = refl;
       past = refl;
+      by_part = refl;
       committed = refl;
       count = refl;
     }

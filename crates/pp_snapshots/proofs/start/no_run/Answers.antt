@@ -20,6 +20,7 @@ returns-clause-taken g c =
       threads = c.new-2.result;
       ids = c.new-3.result;
       past = c.in_ok-past.past;
+      by_part = c.nothing_listed.result;
       committed = c.new-4.result;
       count = 0;
     } in

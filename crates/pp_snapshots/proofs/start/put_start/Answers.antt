@@ -13,5 +13,6 @@ returns g c = record {
       ∙ ap (λ l. c.args.parts.now.committed ++ record { name = c.args.tx.now; entries = l } ∷ []) (c.in_ok-entries.ensures ∙ c.as_slice.ensures);
   shape = refl;
   past = refl;
+  by_part = refl;
   count = refl;
 }

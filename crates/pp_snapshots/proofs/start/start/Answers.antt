@@ -46,7 +46,7 @@ returns-then-not-branch-clause-answers g c =
       (λ k. told.0 (subst (MayFollow o place v.shape h) (sym all) ((start_may g.S.Spec.object g.S.Placed.place_of g.S.Placed.SameAt g.met.S.Spec.lawful g.met.S.Placed.placed v c.requires.keeps c.requires.new c.args.tx.now c.args.items.now).1 k.1.0))),
       record {
         taken = refl;
-        keeps = (stays_with g.S.Spec.object g.S.Placed.place_of g.S.Placed.SameAt g.met.S.Spec.lawful g.met.S.Placed.placed v c.requires.keeps c.apply_all.new.past told.1 (omega (arith, size))).keeps;
+        keeps = (stays_with g.S.Spec.object g.S.Placed.place_of g.S.Placed.SameAt g.met.S.Spec.lawful g.met.S.Placed.placed v c.requires.keeps c.apply_all.new.past v.by_part told.1 (omega (arith, size))).keeps;
       },
     )
 

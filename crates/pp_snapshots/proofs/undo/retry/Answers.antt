@@ -8,8 +8,8 @@ use Rattle.pp_snapshots.proofs.OnClosing.{retried_moves, retry_good}
 use Rattle.pp_snapshots.proofs.OnOp.{not_open}
 use Rattle.pp_snapshots.proofs.undo.retry.Goals as goal
 
-pub returns-in_default : goal.returns-in_default
-returns-in_default g c =
+pub returns-in_default-clause-answers : goal.returns-in_default-clause-answers
+returns-in_default-clause-answers g c =
     let v = c.args.parts.now in (
       (λ ks k. not_open g.S.Spec.object g.S.Placed.place_of g.S.Placed.SameAt g.met.S.Spec.lawful g.met.S.Placed.placed v c.requires.keeps c.args.tx.now (λ x. Unit {0}) (sym c.in_default.ensures.found) k),
       subst (λ z. Stays g.S.Spec.object g.S.Placed.place_of v (record v { slots = z })) (sym c.in_default.ensures.same)
@@ -24,8 +24,8 @@ pub put_back-requires : goal.put_back-requires
 put_back-requires g c =
     some_there _ _ (ap (lookup (bytes_eq c.args.tx.now)) c.in-Some.ensures.emptied ∙ slot_stays c.args.tx.now c.args.parts.now.slots.entries c.in-Some.it None (sym c.in-Some.ensures.found))
 
-pub returns : goal.returns
-returns g c =
+pub returns-clause-answers : goal.returns-clause-answers
+returns-clause-answers g c =
     let found = sym c.in-Some.ensures.found in
     let t = c.args.tx.now in
     let y = c.anew-it.result in

@@ -7,4 +7,4 @@ use Rattle.pp_snapshots.proofs.snapshots.Snapshots.count.Goals as goal
 
 pub returns-clause-held : goal.returns-clause-held
 returns-clause-held g c =
-    subst (λ z. (p : Standing Front _) × IsTakenOf g.S.Spec.object g.S.Placed.place_of z p) c.self.view_is (held_is g.S.Spec.object g.S.Placed.place_of c.self.inside.parts.value c.self.invariant)
+    subst (λ z. (p : Standing Front _) × IsTakenOf g.S.Spec.object g.S.Placed.place_of z p) c.self.view_is (held_is g.S.Spec.object g.S.Placed.place_of c.self.inside.parts.value c.self.invariant.0)

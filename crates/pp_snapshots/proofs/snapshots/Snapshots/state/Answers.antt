@@ -7,5 +7,5 @@ use Rattle.pp_snapshots.proofs.snapshots.Snapshots.state.Goals as goal
 pub returns : goal.returns
 returns g c =
     ap (λ z. z.past.state) c.deref.ensures
-    ∙ state_is g.S.Spec.object g.S.Placed.place_of g.S.Placed.SameAt g.met.S.Spec.lawful g.met.S.Placed.placed c.self.inside.parts.value c.self.invariant
+    ∙ state_is g.S.Spec.object g.S.Placed.place_of g.S.Placed.SameAt g.met.S.Spec.lawful g.met.S.Placed.placed c.self.inside.parts.value c.self.invariant.0
     ∙ ap (λ z. state_after g.S.Spec.object z.shape (serial_ops z.done)) c.self.view_is
