@@ -29,10 +29,11 @@ use Rattle.pp_laws_opacity.proofs.Orders.{seen_in_whole}
 use Rattle.pp_laws_opacity.proofs.Prefixes.{began_new, began_one, began_some, empty_or_not, last_end}
 use Rattle.pp_laws_opacity.proofs.Questions.{began_before}
 use Rattle.pp_laws_opacity.proofs.Runs.{attempts_step, fewer_before, front, meets_at, own_undone, traced_at}
-use Rattle.pp_opacity.specs.Attempts.{OpenAttempt, least_in, own_in}
-use Rattle.pp_opacity.specs.Replays.{Follows}
+use Rattle.pp_opacity.specs.Attempts.{Excluded, OpenAttempt, excluded_in, excludes_none, least_in, own_in}
+use Rattle.pp_opacity.specs.Replays.{Follows, MayAskOf}
 use Rattle.pp_opacity.specs.Results.{IsRun}
-use Rattle.pp_opacity.specs.Trials.{IsAt, IsExplained, IsSerial, MayAsk, Serial}
+use Rattle.pp_opacity.specs.Trials.{AreExcluded, IsAt, IsExplained, IsSerial, Serial}
+use Rattle.pp_opacity.proofs.Windows.{excluded_longer, excluded_same, none_excluded}
 
 -- a step that is no BEGIN or UNAPP of t begins no attempt of t
 quiet_began : {Op : Type 0} (t : Name) (early past : List (Step Op)) (s : Step Op) → Began t early (past ++ s ∷ []) → (MayStart t s → ⊥) → Began t early past
@@ -124,12 +125,14 @@ module _ {Shape State Op Undo : Type 0} (o : Object Shape State Op Undo) (shape 
       → IsAt o shape committed new → new.count ≡ serial.count + length (commits (s ∷ []))
       → ((t : Name) → own_in t more ≡ own_after t s (own_in t kept))
       → ((t : Name) (early : List (Step Op)) → Began t early (past ++ s ∷ []) → least_in t more ≡ length (attempts h early))
+      → ((t : Name) → AreExcluded (rules_of o shape) committed (own_in t more) (excluded_in t more))
       → Follows o shape h (past ++ s ∷ []) committed new more
-  follows_next serial new kept more f at count own least = record {
+  follows_next serial new kept more f at count own least excluded = record {
     at = at;
     count = count ∙ ap (λ (n : ℕ). n + length (commits (s ∷ []))) f.count ∙ sym count_step;
     own = λ t. own t ∙ ap (λ (w : List (Item Op)). own_after t s w) (f.own t) ∙ sym (grows t);
     least = least;
+    excluded = excluded;
   }
 
   -- It follows a step that begins no attempt and changes no own list.
@@ -139,7 +142,7 @@ module _ {Shape State Op Undo : Type 0} (o : Object Shape State Op Undo) (shape 
       → Follows o shape h (past ++ s ∷ []) committed new kept
   follows_quiet serial new kept f still same at count =
       follows_next serial new kept kept f at count (λ t. sym (same t (own_in t kept)))
-      (λ t early b. f.least t early (quiet_began t early past s b (still t)))
+      (λ t early b. f.least t early (quiet_began t early past s b (still t))) f.excluded
 
   -- a transaction that begins an attempt now began it with all steps so far
   now_began : (t : Name) (early : List (Step Op)) → Began t early (past ++ s ∷ []) → Starts t (past ++ s ∷ []) → past ++ s ∷ [] ≡ early
@@ -147,11 +150,26 @@ module _ {Shape State Op Undo : Type 0} (o : Object Shape State Op Undo) (shape 
 
 module _ {Shape State Op Undo : Type 0} (o : Object Shape State Op Undo) (shape : Shape) (h : Option (Start Op)) (past rest : List (Step Op))
     (committed : List (CommittedTx Op)) (serial : Serial State Undo) (kept more : List (Name × OpenAttempt Op)) (f : Follows o shape h past committed serial kept) where
+  -- the numbers that are excluded of t, after a step of u that excludes none of u
+  excluded_anew : (u t : Name) → excluded_in t more ≡ cond (u =ⁿ t) excludes_none (excluded_in t kept) → ((u =ⁿ t) ≡ false → own_in t more ≡ own_in t kept)
+      → AreExcluded (rules_of o shape) committed (own_in t more) (excluded_in t more)
+  excluded_anew u t excluded others = elim (names_tell u t) [
+    | inl e ↦
+        let none = excluded ∙ ap (λ (z : Bool). cond z excludes_none (excluded_in t kept)) e.0 in
+        subst (λ (w : Excluded). AreExcluded (rules_of o shape) committed (own_in t more) w) (sym none) (none_excluded (rules_of o shape) committed (own_in t more))
+    | inr e ↦
+        let same = excluded ∙ ap (λ (z : Bool). cond z excludes_none (excluded_in t kept)) e.0 in
+        excluded_same (rules_of o shape) committed (own_in t kept) (own_in t more) (excluded_in t kept) (excluded_in t more) (others e.0) same (f.excluded t)
+  ]
+
   -- What is kept follows a BEGIN.
   pub follows_begin : (u p : Name) (b : Option Tree) → IsRun o shape h (past ++ Begin u p b ∷ rest) committed
       → ((t : Name) → own_in t more ≡ cond (u =ⁿ t) [] (own_in t kept)) → ((t : Name) → least_in t more ≡ cond (u =ⁿ t) serial.count (least_in t kept))
+      → ((t : Name) → excluded_in t more ≡ cond (u =ⁿ t) excludes_none (excluded_in t kept))
       → Follows o shape h (past ++ Begin u p b ∷ []) committed serial more
-  follows_begin u p b r own least = follows_next o shape h past rest s committed r serial serial kept more f f.at (omega arith) own_next least_next
+  follows_begin u p b r own least excluded =
+      follows_next o shape h past rest s committed r serial serial kept more f f.at (omega arith) own_next least_next
+      (λ t. excluded_anew u t (excluded t) (λ n. own t ∙ ap (λ (z : Bool). cond z [] (own_in t kept)) n))
     where
       s : Step Op
       s = Begin u p b
@@ -182,21 +200,57 @@ module _ {Shape State Op Undo : Type 0} (o : Object Shape State Op Undo) (shape 
       ]
 
   -- What is kept follows an APP.
-  pub follows_app : (u : Name) (id : ℕ) (op : Op) (new : Serial State Undo) → IsRun o shape h (past ++ App u id op ∷ rest) committed
+  pub follows_app : (u : Name) (id : ℕ) (op : Op) → IsRun o shape h (past ++ App u id op ∷ rest) committed
       → ((t : Name) → own_in t more ≡ cond (u =ⁿ t) (own_in t kept ++ record { id = id; op = op } ∷ []) (own_in t kept)) → ((t : Name) → least_in t more ≡ least_in t kept)
-      → IsAt o shape committed new → new.count ≡ serial.count
-      → Follows o shape h (past ++ App u id op ∷ []) committed new more
-  follows_app u id op new r own least at count =
-      follows_next o shape h past rest (App u id op) committed r serial new kept more f at (omega (arith, count)) own
-      (λ t early b. least t ∙ f.least t early (quiet_began t early past (App u id op) b (λ m. m)))
+      → ((t : Name) → excluded_in t more ≡ excluded_in t kept)
+      → Follows o shape h (past ++ App u id op ∷ []) committed serial more
+  follows_app u id op r own least excluded =
+      follows_next o shape h past rest (App u id op) committed r serial serial kept more f f.at (omega arith) own
+      (λ t early b. least t ∙ f.least t early (quiet_began t early past (App u id op) b (λ m. m))) excluded_more
+    where
+      item : Item Op
+      item = record { id = id; op = op }
+
+      excluded_more : (t : Name) → AreExcluded (rules_of o shape) committed (own_in t more) (excluded_in t more)
+      excluded_more t = elim (names_tell u t) [
+        | inl e ↦
+            let grown = own t ∙ ap (λ (z : Bool). cond z (own_in t kept ++ item ∷ []) (own_in t kept)) e.0 in
+            excluded_same (rules_of o shape) committed (own_in t kept ++ item ∷ []) (own_in t more) (excluded_in t kept) (excluded_in t more) grown (excluded t)
+            (excluded_longer (rules_of o shape) committed (own_in t kept) (item ∷ []) (excluded_in t kept) (f.excluded t))
+        | inr e ↦
+            let same = own t ∙ ap (λ (z : Bool). cond z (own_in t kept ++ item ∷ []) (own_in t kept)) e.0 in
+            excluded_same (rules_of o shape) committed (own_in t kept) (own_in t more) (excluded_in t kept) (excluded_in t more) same (excluded t) (f.excluded t)
+      ]
+
+  -- What is kept follows the same steps after a question about one transaction, which may exclude numbers.
+  pub follows_asked : (u : Name) (new : Serial State Undo) → IsAt o shape committed new → new.count ≡ serial.count
+      → ((t : Name) → own_in t more ≡ own_in t kept) → ((t : Name) → least_in t more ≡ least_in t kept)
+      → ((t : Name) → (u =ⁿ t) ≡ false → excluded_in t more ≡ excluded_in t kept)
+      → AreExcluded (rules_of o shape) committed (own_in u kept) (excluded_in u more)
+      → Follows o shape h past committed new more
+  follows_asked u new at count own least others excluded = record {
+    at = at;
+    count = count ∙ f.count;
+    own = λ t. own t ∙ f.own t;
+    least = λ t early b. least t ∙ f.least t early b;
+    excluded = λ t. elim (names_tell u t) [
+      | inl e ↦
+          let same : own_in t more ≡ own_in u kept = own t ∙ ap (λ (w : Name). own_in w kept) (sym e.1) in
+          excluded_same (rules_of o shape) committed (own_in u kept) (own_in t more) (excluded_in u more) (excluded_in t more) same (ap (λ (w : Name). excluded_in w more) (sym e.1)) excluded
+      | inr e ↦ excluded_same (rules_of o shape) committed (own_in t kept) (own_in t more) (excluded_in t kept) (excluded_in t more) (own t) (others t e.0) (f.excluded t)
+    ];
+  }
 
   -- What is kept follows an UNAPP.
   pub follows_unapp : (u : Name) (id : ℕ) → IsRun o shape h (past ++ Unapp u id ∷ rest) committed
       → ((t : Name) → own_in t more ≡ cond (u =ⁿ t) (take (length (own_in t kept) - 1) (own_in t kept)) (own_in t kept))
       → ((t : Name) → (u =ⁿ t) ≡ false → least_in t more ≡ least_in t kept)
       → (own_in u more ≢ [] → least_in u more ≡ least_in u kept) → (own_in u kept ≢ [] → own_in u more ≡ [] → least_in u more ≡ serial.count)
+      → ((t : Name) → excluded_in t more ≡ cond (u =ⁿ t) excludes_none (excluded_in t kept))
       → Follows o shape h (past ++ Unapp u id ∷ []) committed serial more
-  follows_unapp u id r own others still begins = follows_next o shape h past rest s committed r serial serial kept more f f.at (omega arith) own least_next
+  follows_unapp u id r own others still begins excluded =
+      follows_next o shape h past rest s committed r serial serial kept more f f.at (omega arith) own least_next
+      (λ t. excluded_anew u t (excluded t) (λ n. own t ∙ ap (λ (z : Bool). cond z (take (length (own_in t kept) - 1) (own_in t kept)) (own_in t kept)) n))
     where
       s : Step Op
       s = Unapp u id
@@ -256,12 +310,13 @@ module _ {Shape State Op Undo : Type 0} (o : Object Shape State Op Undo) (shape 
       omega (arith, low, fewer, high)
 
   -- The own list may be asked about.
-  pub may_ask : MayAsk o shape committed (own_in u kept) serial
+  pub may_ask : MayAskOf o shape committed u kept serial
   may_ask = record {
     run = run_serial o shape h (past ++ s ∷ rest) committed r;
     at = f.at;
     may = subst (λ (w : List (Item Op)). MayBeTried o shape (length (serial_ops committed)) w) (sym (f.own u))
         (own_tried o shape h (past ++ s ∷ rest) committed r u now (now_within o shape h past rest s committed r));
+    none = f.excluded u;
   }
 
   serial_now : (n : ℕ) → n ≤ length (attempts h now) → serial_ops (take n committed) ≡ serial_list (take n (attempts h now))
@@ -314,4 +369,5 @@ module _ {Shape State Op Undo : Type 0} (o : Object Shape State Op Undo) (shape 
     count = count ∙ e ∙ ap (λ (w : List (Attempt Op)). length w) (sym (append-nil (start_attempts h)));
     own = λ t. ap (λ (w : List (Name × OpenAttempt Op)). own_in t w) none;
     least = λ t early b. absurd (no_began t early b);
+    excluded = λ t. subst (λ (w : List (Name × OpenAttempt Op)). AreExcluded (rules_of o shape) committed (own_in t w) (excluded_in t w)) (sym none) (none_excluded (rules_of o shape) committed []);
   }

@@ -10,13 +10,13 @@ use Rattle.pp_model.specs.Serial.{commits}
 use Rattle.pp_kind.specs.Object.{Object, rules_of}
 use Rattle.pp_attempts.specs.Lists.{own_after}
 use Rattle.pp_laws_opacity.specs.Opacity.{MayStart, SeesSome}
-use Rattle.pp_opacity.specs.Attempts.{OpenAttempt, least_in, own_in}
+use Rattle.pp_opacity.specs.Attempts.{OpenAttempt, excluded_in, excludes_none, least_in, own_in}
 use Rattle.pp_opacity.specs.Costs.{operations_of}
-use Rattle.pp_opacity.specs.Replays.{Follows, IsSeen, step_costs}
+use Rattle.pp_opacity.specs.Replays.{Follows, IsSeen, MayAskOf, step_costs}
 use Rattle.pp_opacity.proofs.Costs.{app_costs, cmt_costs}
 use Rattle.pp_opacity.specs.Results.{IsRun}
-use Rattle.pp_opacity.specs.Trials.{IsAt, IsExplained, MayAsk, Serial}
-use Rattle.pp_opacity.proofs.Replays.{count_step, explained_sees, follows_app, follows_begin, follows_quiet, follows_unapp, low_within, may_ask, now_fewer, sees_explained}
+use Rattle.pp_opacity.specs.Trials.{AreExcluded, IsAt, IsExplained, Serial}
+use Rattle.pp_opacity.proofs.Replays.{count_step, explained_sees, follows_app, follows_asked, follows_begin, follows_quiet, follows_unapp, low_within, may_ask, now_fewer, sees_explained}
 
 -- the step is an APP
 abbrev IsApp : {Op : Type 0} → Step Op → Type 0
@@ -93,31 +93,34 @@ module _ {Shape State Op Undo : Type 0} (o : Object Shape State Op Undo) (shape 
   -- What is kept follows a BEGIN.
   pub take_begin : (u p : Name) (b : Option Tree) → s ≡ Begin u p b → (more : List (Name × OpenAttempt Op))
       → ((t : Name) → own_in t more ≡ cond (u =ⁿ t) [] (own_in t kept)) → ((t : Name) → least_in t more ≡ cond (u =ⁿ t) serial.count (least_in t kept))
+      → ((t : Name) → excluded_in t more ≡ cond (u =ⁿ t) excludes_none (excluded_in t kept))
       → Follows o shape h (past ++ s ∷ []) committed serial more
-  take_begin u p b e more own least =
+  take_begin u p b e more own least excluded =
       subst (λ (w : Step Op). Follows o shape h (past ++ w ∷ []) committed serial more) (sym e)
-      (follows_begin o shape h past rest committed serial kept more f u p b (subst (λ (w : Step Op). IsRun o shape h (past ++ w ∷ rest) committed) e r) own least)
+      (follows_begin o shape h past rest committed serial kept more f u p b (subst (λ (w : Step Op). IsRun o shape h (past ++ w ∷ rest) committed) e r) own least excluded)
 
   -- What is kept follows an UNAPP.
   pub take_unapp : (u : Name) (id : ℕ) → s ≡ Unapp u id → (more : List (Name × OpenAttempt Op))
       → ((t : Name) → own_in t more ≡ cond (u =ⁿ t) (take (length (own_in t kept) - 1) (own_in t kept)) (own_in t kept))
       → ((t : Name) → (u =ⁿ t) ≡ false → least_in t more ≡ least_in t kept)
       → (own_in u more ≢ [] → least_in u more ≡ least_in u kept) → (own_in u kept ≢ [] → own_in u more ≡ [] → least_in u more ≡ serial.count)
+      → ((t : Name) → excluded_in t more ≡ cond (u =ⁿ t) excludes_none (excluded_in t kept))
       → Follows o shape h (past ++ s ∷ []) committed serial more
-  take_unapp u id e more own others still begins =
+  take_unapp u id e more own others still begins excluded =
       subst (λ (w : Step Op). Follows o shape h (past ++ w ∷ []) committed serial more) (sym e)
-      (follows_unapp o shape h past rest committed serial kept more f u id (subst (λ (w : Step Op). IsRun o shape h (past ++ w ∷ rest) committed) e r) own others still begins)
+      (follows_unapp o shape h past rest committed serial kept more f u id (subst (λ (w : Step Op). IsRun o shape h (past ++ w ∷ rest) committed) e r) own others still begins excluded)
 
   module _ (u : Name) (id : ℕ) (op : Op) (e : s ≡ App u id op) (more : List (Name × OpenAttempt Op))
-      (own : (t : Name) → own_in t more ≡ cond (u =ⁿ t) (own_in t kept ++ record { id = id; op = op } ∷ []) (own_in t kept)) (least : (t : Name) → least_in t more ≡ least_in t kept) where
+      (own : (t : Name) → own_in t more ≡ cond (u =ⁿ t) (own_in t kept ++ record { id = id; op = op } ∷ []) (own_in t kept)) (least : (t : Name) → least_in t more ≡ least_in t kept)
+      (excluded : (t : Name) → excluded_in t more ≡ excluded_in t kept) where
     run_app : IsRun o shape h (past ++ App u id op ∷ rest) committed
     run_app = subst (λ (w : Step Op). IsRun o shape h (past ++ w ∷ rest) committed) e r
 
     asking : Follows o shape h (past ++ App u id op ∷ []) committed serial more
-    asking = follows_app o shape h past rest committed serial kept more f u id op serial run_app own least f.at refl
+    asking = follows_app o shape h past rest committed serial kept more f u id op run_app own least excluded
 
     -- After an APP the own list may be asked about.
-    pub app_ask : MayAsk o shape committed (own_in u more) serial
+    pub app_ask : MayAskOf o shape committed u more serial
     app_ask = may_ask o shape h past rest u id op committed serial more run_app asking
 
     -- Its window begins no later than now.
@@ -130,10 +133,13 @@ module _ {Shape State Op Undo : Type 0} (o : Object Shape State Op Undo) (shape 
     app_spent t t2 cost = subst (λ (w : Step Op). t2 ≤ t + step_costs h past w committed) (sym e) (app_costs o shape h past rest u id op committed serial more run_app asking t t2 cost)
 
     -- What is kept follows an APP.
-    pub take_app : (new : Serial State Undo) → IsAt o shape committed new → new.count ≡ serial.count → Follows o shape h (past ++ s ∷ []) committed new more
-    take_app new at count =
-        subst (λ (w : Step Op). Follows o shape h (past ++ w ∷ []) committed new more) (sym e)
-        (follows_app o shape h past rest committed serial kept more f u id op new run_app own least at count)
+    pub take_app : (new : Serial State Undo) (last : List (Name × OpenAttempt Op)) → IsAt o shape committed new → new.count ≡ serial.count
+        → ((t : Name) → own_in t last ≡ own_in t more) → ((t : Name) → least_in t last ≡ least_in t more)
+        → ((t : Name) → (u =ⁿ t) ≡ false → excluded_in t last ≡ excluded_in t more)
+        → AreExcluded (rules_of o shape) committed (own_in u more) (excluded_in u last) → Follows o shape h (past ++ s ∷ []) committed new last
+    take_app new last at count own_last least_last others passed =
+        subst (λ (w : Step Op). Follows o shape h (past ++ w ∷ []) committed new last) (sym e)
+        (follows_asked o shape h (past ++ App u id op ∷ []) rest committed serial more last asking u new at count own_last least_last others passed)
 
     -- What is explained is seen.
     pub app_seen : IsExplained (rules_of o shape) committed (own_in u more) (least_in u more) serial.count → IsSeen (rules_of o shape) h past s None

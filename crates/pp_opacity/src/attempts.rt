@@ -1,11 +1,19 @@
 //! The attempts that the open transactions are in, while the steps of a run are read.
-ghost use Rattle.std.specs.Prelude.{◌≡◌, ◌≢◌, ◌++◌, ◌∷◌, ◌-◌, [], false, cond, OnOk, length, take};
+ghost use Rattle.std.specs.Prelude.{◌≡◌, ◌≢◌, ◌⊎◌, ◌++◌, ◌∷◌, ◌-◌, [], false, cond, OnOk, length};
+ghost use Rattle.std.specs.Prelude.{take};
 ghost use Rattle.pp_model.specs.Names.{Name as NameOf, ◌=ⁿ◌};
-ghost use Rattle.pp_opacity.specs.Attempts.{least_in, own_in};
+ghost use Rattle.pp_opacity.specs.Attempts.{excluded_in, excludes_none, least_in, own_in};
 
 use indexmap::IndexMap;
 use pp_core::{Item, Name, OutOfMemory};
 use std::alloc::Global;
+
+/// Numbers of commits: those after the one, up to the other.
+#[derive(Clone, Copy)]
+pub(crate) struct Excluded {
+    pub(crate) after: usize,
+    pub(crate) up_to: usize,
+}
 
 /// The attempt that a transaction is in.
 #[derive(Drop)]
@@ -14,10 +22,19 @@ pub(crate) struct OpenAttempt<O: Copy> {
     pub(crate) least: usize,
     /// What it applied and did not take back.
     pub(crate) own: Vec<Item<O>>,
+    /// Numbers of commits that do not explain its own list.
+    pub(crate) excluded: Excluded,
 }
 
 /// The attempt of each transaction that has begun.
 pub(crate) type Attempts<O> = IndexMap<Name, OpenAttempt<O>>;
+
+/// No numbers of commits.
+fn none() -> Excluded
+    ensures { result ≡ excludes_none }
+{
+    Excluded { after: 0, up_to: 0 }
+}
 
 /// The transaction begins an attempt after so many commits.
 pub(crate) fn begin<O: Copy>(
@@ -30,9 +47,15 @@ pub(crate) fn begin<O: Copy>(
         ≡ cond (tx.now =ⁿ t) [] (own_in t attempts.old.entries)) }
     ensures least { OnOk result ((t : NameOf) → least_in t attempts.new.entries
         ≡ cond (tx.now =ⁿ t) count (least_in t attempts.old.entries)) }
+    ensures excluded { OnOk result ((t : NameOf) → excluded_in t attempts.new.entries
+        ≡ cond (tx.now =ⁿ t) excludes_none (excluded_in t attempts.old.entries)) }
 {
-    let own = Vec::new(alloc);
-    attempts.insert(*tx, OpenAttempt { least: count, own })?;
+    let attempt = OpenAttempt {
+        least: count,
+        own: Vec::new(alloc),
+        excluded: none(),
+    };
+    attempts.insert(*tx, attempt)?;
     Ok(())
 }
 
@@ -48,6 +71,8 @@ pub(crate) fn apply<O: Copy>(
         (own_in t attempts.old.entries)) }
     ensures least { OnOk result ((t : NameOf) → least_in t attempts.new.entries
         ≡ least_in t attempts.old.entries) }
+    ensures excluded { OnOk result ((t : NameOf) → excluded_in t attempts.new.entries
+        ≡ excluded_in t attempts.old.entries) }
 {
     if let Some(attempt) = attempts.get_mut(tx) {
         attempt.own.push(item)?;
@@ -55,7 +80,12 @@ pub(crate) fn apply<O: Copy>(
     }
     let mut own = Vec::new(alloc);
     own.push(item)?;
-    attempts.insert(*tx, OpenAttempt { least: 0, own })?;
+    let attempt = OpenAttempt {
+        least: 0,
+        own,
+        excluded: none(),
+    };
+    attempts.insert(*tx, attempt)?;
     Ok(())
 }
 
@@ -72,9 +102,12 @@ pub(crate) fn unapply<O: Copy>(attempts: &mut Attempts<O>, tx: &Name, count: usi
     ensures begins { own_in tx.now attempts.old.entries ≢ []
         → own_in tx.now attempts.new.entries ≡ []
         → least_in tx.now attempts.new.entries ≡ count }
+    ensures excluded { (t : NameOf) → excluded_in t attempts.new.entries
+        ≡ cond (tx.now =ⁿ t) excludes_none (excluded_in t attempts.old.entries) }
 {
     if let Some(attempt) = attempts.get_mut(tx) {
         attempt.own.pop();
+        attempt.excluded = none();
         if attempt.own.is_empty() {
             attempt.least = count;
         }
@@ -98,5 +131,32 @@ pub(crate) fn least<O: Copy>(attempts: &Attempts<O>, tx: &Name) -> usize
     match attempts.get(tx) {
         Some(attempt) => attempt.least,
         None => 0,
+    }
+}
+
+/// The numbers of commits that are known not to explain the own list of the transaction.
+pub(crate) fn excluded_of<O: Copy>(attempts: &Attempts<O>, tx: &Name) -> Excluded
+    ensures { result ≡ excluded_in tx.now attempts.now.entries }
+{
+    match attempts.get(tx) {
+        Some(attempt) => attempt.excluded,
+        None => none(),
+    }
+}
+
+/// Keeps that these numbers of commits do not explain the own list of the transaction.
+pub(crate) fn exclude<O: Copy>(attempts: &mut Attempts<O>, tx: &Name, excluded: Excluded)
+    ensures own { (t : NameOf) → own_in t attempts.new.entries ≡ own_in t attempts.old.entries }
+    ensures least { (t : NameOf) → least_in t attempts.new.entries
+        ≡ least_in t attempts.old.entries }
+    ensures others { (t : NameOf) → (tx.now =ⁿ t) ≡ false
+        → excluded_in t attempts.new.entries ≡ excluded_in t attempts.old.entries }
+    ensures kept { own_in tx.now attempts.old.entries ≢ []
+        → excluded_in tx.now attempts.new.entries ≡ excluded }
+    ensures begun { (excluded_in tx.now attempts.new.entries ≡ excluded)
+        ⊎ (excluded_in tx.now attempts.new.entries ≡ excludes_none) }
+{
+    if let Some(attempt) = attempts.get_mut(tx) {
+        attempt.excluded = excluded;
     }
 }

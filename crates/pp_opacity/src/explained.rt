@@ -1,56 +1,65 @@
 //! Whether some number of committed transactions in a window explains a list of operations.
 ghost use Rattle.std.specs.Prelude.{◌≡◌, ◌+◌, ◌*◌, ◌≤◌, ◌↔◌, IfOk, IsTrue, List, OnOk, length, take};
+ghost use Rattle.std.specs.Prelude.{None, Some, cond};
 ghost use Rattle.pp_model.specs.Config.{CommittedTx as TxOf};
 ghost use Rattle.pp_model.specs.Sound.{serial_ops};
 ghost use Rattle.pp_kind.specs.Object.{rules_of};
 ghost use Rattle.pp_attempts.specs.Views.{Explains};
-ghost use Rattle.pp_opacity.specs.Trials.{IsAt, IsExplained, MayAsk};
+ghost use Rattle.pp_opacity.specs.Trials.{IsAt, IsGreatest, MayAsk};
 
+use crate::attempts::Excluded;
 use crate::serial::{Serial, advance_to, retreat};
 use crate::trial::is_allowed_next;
 use pp_core::{CommittedTx, Item, OutOfMemory, Ticks};
 use pp_kind::Spec;
 use std::sync::ledger::Ledger;
 
-/// Whether operations are allowed after the transactions of the serial run.
+/// Whether operations are allowed after the transactions of the serial run. They are not tried if
+/// this number of transactions is excluded.
 fn is_explained_here<S: Spec, L: Ledger>(
     serial: &mut Serial<S::State, S::Undo>,
     items: &[Item<S::Op>],
+    excluded: Excluded,
     ticks: &mut Ticks<L>,
 ) -> Result<bool, OutOfMemory>
     requires { (shape : S.Shape) × (committed : List (TxOf S.Op))
-        × MayAsk S.object shape committed items.now serial.old }
+        × MayAsk S.object shape committed items.now excluded serial.old }
     ensures decided { IfOk result (λ yes. (shape : S.Shape) (committed : List (TxOf S.Op))
-        → MayAsk S.object shape committed items.now serial.old
+        → MayAsk S.object shape committed items.now excluded serial.old
         → IsTrue yes ↔ Explains (rules_of S.object shape) committed items.now serial.old.count) }
     ensures at { OnOk result ((shape : S.Shape) (committed : List (TxOf S.Op))
-        → MayAsk S.object shape committed items.now serial.old
+        → MayAsk S.object shape committed items.now excluded serial.old
         → IsAt S.object shape committed serial.new) }
     ensures count { OnOk result (serial.new.count ≡ serial.old.count) }
     ensures rises { ticks.old ≤ ticks.new }
     ensures bound { ticks.new ≤ ticks.old + 2 * length items.now }
 {
+    if excluded.after < serial.count && serial.count <= excluded.up_to {
+        return Ok(false);
+    }
     let yes = is_allowed_next::<S, L>(&mut serial.state, &mut serial.undos, items, ticks)?;
     Ok(yes)
 }
 
 /// Takes transactions back, but no more than leave `low`, until the others explain the operations.
-/// It returns whether they do.
+/// It returns whether they do. The excluded numbers are passed over.
 fn descend<S: Spec, L: Ledger>(
     serial: &mut Serial<S::State, S::Undo>,
     committed: &[CommittedTx<S::Op>],
     low: usize,
     items: &[Item<S::Op>],
+    excluded: Excluded,
     ticks: &mut Ticks<L>,
 ) -> Result<bool, OutOfMemory>
     requires low { low ≤ serial.old.count }
     requires ask { (shape : S.Shape)
-        × MayAsk S.object shape committed.now items.now serial.old }
+        × MayAsk S.object shape committed.now items.now excluded serial.old }
     ensures decided { IfOk result (λ found. (shape : S.Shape)
-        → MayAsk S.object shape committed.now items.now serial.old → IsTrue found
-        ↔ IsExplained (rules_of S.object shape) committed.now items.now low serial.old.count) }
+        → MayAsk S.object shape committed.now items.now excluded serial.old
+        → IsGreatest (rules_of S.object shape) committed.now items.now low serial.old.count
+        (cond found (Some serial.new.count) None)) }
     ensures at { OnOk result ((shape : S.Shape)
-        → MayAsk S.object shape committed.now items.now serial.old
+        → MayAsk S.object shape committed.now items.now excluded serial.old
         → IsAt S.object shape committed.now serial.new) }
     ensures above { OnOk result (low ≤ serial.new.count) }
     ensures below { OnOk result (serial.new.count ≤ serial.old.count) }
@@ -64,31 +73,33 @@ fn descend<S: Spec, L: Ledger>(
         ≤ ticks.old + 2 * length (serial_ops (take serial.old.count committed.now))
         + 2 * ((serial.old.count + 1) * length items.now) }
 {
-    let mut found = is_explained_here::<S, L>(serial, items, ticks)?;
+    let mut found = is_explained_here::<S, L>(serial, items, excluded, ticks)?;
     while !found && serial.count > low {
         retreat::<S, L>(serial, committed, ticks)?;
-        found = is_explained_here::<S, L>(serial, items, ticks)?;
+        found = is_explained_here::<S, L>(serial, items, excluded, ticks)?;
     }
     Ok(found)
 }
 
-/// Whether some number of committed transactions explains the operations: at least `low`, and at
-/// most as many as the serial run has. In the end it has as many again.
-pub(crate) fn is_explained<S: Spec, L: Ledger>(
+/// The greatest number of committed transactions that explains the operations: at least `low`, and
+/// at most as many as the serial run has. In the end it has as many again.
+pub(crate) fn find_explanation<S: Spec, L: Ledger>(
     serial: &mut Serial<S::State, S::Undo>,
     committed: &[CommittedTx<S::Op>],
     low: usize,
     items: &[Item<S::Op>],
+    excluded: Excluded,
     ticks: &mut Ticks<L>,
-) -> Result<bool, OutOfMemory>
+) -> Result<Option<usize>, OutOfMemory>
     requires low { low ≤ serial.old.count }
     requires ask { (shape : S.Shape)
-        × MayAsk S.object shape committed.now items.now serial.old }
+        × MayAsk S.object shape committed.now items.now excluded serial.old }
     ensures decided { IfOk result (λ found. (shape : S.Shape)
-        → MayAsk S.object shape committed.now items.now serial.old → IsTrue found
-        ↔ IsExplained (rules_of S.object shape) committed.now items.now low serial.old.count) }
+        → MayAsk S.object shape committed.now items.now excluded serial.old
+        → IsGreatest (rules_of S.object shape) committed.now items.now low serial.old.count
+        found) }
     ensures at { OnOk result ((shape : S.Shape)
-        → MayAsk S.object shape committed.now items.now serial.old
+        → MayAsk S.object shape committed.now items.now excluded serial.old
         → IsAt S.object shape committed.now serial.new) }
     ensures count { OnOk result (serial.new.count ≡ serial.old.count) }
     ensures rises { ticks.old ≤ ticks.new }
@@ -98,7 +109,8 @@ pub(crate) fn is_explained<S: Spec, L: Ledger>(
         + 2 * ((serial.old.count + 1) * length items.now) }
 {
     let high = serial.count;
-    let found = descend::<S, L>(serial, committed, low, items, ticks)?;
+    let found = descend::<S, L>(serial, committed, low, items, excluded, ticks)?;
+    let count = serial.count;
     advance_to::<S, L>(serial, committed, high, ticks)?;
-    Ok(found)
+    Ok(if found { Some(count) } else { None })
 }

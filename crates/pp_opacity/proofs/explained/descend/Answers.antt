@@ -4,7 +4,7 @@ use Rattle.pp_model.specs.Sound.{serial_ops}
 use Rattle.pp_kind.specs.Object.{rules_of}
 use Rattle.pp_attempts.specs.Views.{Explains}
 use Rattle.pp_opacity.proofs.Serials.{serial_shorter}
-use Rattle.pp_opacity.proofs.Windows.{fewer_products, found_or_none, none_above, one_more}
+use Rattle.pp_opacity.proofs.Windows.{fewer_products, greatest_or_none, none_above, one_more}
 use Rattle.pp_opacity.proofs.explained.descend.Goals as goal
 
 pub returns-in_err-retreat-clause-bound : goal.returns-in_err-retreat-clause-bound
@@ -26,7 +26,7 @@ pub is_explained_here-requires-in-loop-found : goal.is_explained_here-requires-i
 is_explained_here-requires-in-loop-found g c =
     let r = c.requires.ask in
     let ask = r.1 in
-    (r.0, c.args.committed.now, record { run = ask.run; at = c.in_ok-retreat.ensures.at r.0 ask.run (c.loop-found.invariant.at r.0 ask); may = ask.may })
+    (r.0, c.args.committed.now, record { run = ask.run; at = c.in_ok-retreat.ensures.at r.0 ask.run (c.loop-found.invariant.at r.0 ask); may = ask.may; none = ask.none })
 
 pub returns-in_err-found-2-clause-bound : goal.returns-in_err-found-2-clause-bound
 returns-in_err-found-2-clause-bound g c =
@@ -75,9 +75,9 @@ loop-found-preserved g c =
     let taken = ap (λ (k : ℕ). length (serial_ops (take k D))) count in
     let no : c.loop-found.found ≡ false = c.loop-found-test.true in
     record {
-      at = λ shape ask. c.in_ok-found-2.ensures.at shape D (record { run = ask.run; at = c.in_ok-retreat.ensures.at shape ask.run (c.loop-found.invariant.at shape ask); may = ask.may });
+      at = λ shape ask. c.in_ok-found-2.ensures.at shape D (record { run = ask.run; at = c.in_ok-retreat.ensures.at shape ask.run (c.loop-found.invariant.at shape ask); may = ask.may; none = ask.none });
       here = λ shape ask. subst (λ (k : ℕ). IsTrue c.in_ok-found-2.found ↔ Explains (rules_of o shape) D items k) (sym count)
-          (c.in_ok-found-2.ensures.decided shape D (record { run = ask.run; at = c.in_ok-retreat.ensures.at shape ask.run (c.loop-found.invariant.at shape ask); may = ask.may }));
+          (c.in_ok-found-2.ensures.decided shape D (record { run = ask.run; at = c.in_ok-retreat.ensures.at shape ask.run (c.loop-found.invariant.at shape ask); may = ask.may; none = ask.none }));
       above = λ shape ask k less within h.
           none_above (rules_of o shape) D items n m c.args.serial.now.count c.loop-found.found e (c.loop-found.invariant.here shape ask) (λ is. let z : true ≡ false = sym is ∙ no in cc)
           (c.loop-found.invariant.above shape ask) k (omega (arith, less, count)) within h;
@@ -90,7 +90,7 @@ loop-found-preserved g c =
 pub returns-else-serial-low-clause-decided : goal.returns-else-serial-low-clause-decided
 returns-else-serial-low-clause-decided g c = λ shape ask.
     let i = c.loop-found.invariant in
-    found_or_none (rules_of g.S.Spec.object shape) c.args.committed.now c.args.items.now c.loop-found.serial.count c.args.low c.args.serial.now.count c.loop-found.found i.low i.high
+    greatest_or_none (rules_of g.S.Spec.object shape) c.args.committed.now c.args.items.now c.loop-found.serial.count c.args.low c.args.serial.now.count c.loop-found.found i.low i.high
     (inl (omega (arith, c.if-serial-low.false))) (i.here shape ask) (i.above shape ask)
 
 pub returns-else-serial-low-clause-bound : goal.returns-else-serial-low-clause-bound
@@ -109,7 +109,7 @@ pub returns-after-loop-found-clause-decided : goal.returns-after-loop-found-clau
 returns-after-loop-found-clause-decided g c = λ shape ask.
     let i = c.loop-found.invariant in
     let there : c.loop-found.found ≡ true = c.loop-found-test.false in
-    found_or_none (rules_of g.S.Spec.object shape) c.args.committed.now c.args.items.now c.loop-found.serial.count c.args.low c.args.serial.now.count c.loop-found.found i.low i.high
+    greatest_or_none (rules_of g.S.Spec.object shape) c.args.committed.now c.args.items.now c.loop-found.serial.count c.args.low c.args.serial.now.count c.loop-found.found i.low i.high
     (inr there) (i.here shape ask) (i.above shape ask)
 
 pub returns-after-loop-found-clause-bound : goal.returns-after-loop-found-clause-bound

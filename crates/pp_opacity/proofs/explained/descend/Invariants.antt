@@ -8,10 +8,10 @@ use Rattle.pp_opacity.proofs.explained.descend.Given as goal
 
 abbrev pub invariant-loop-found : goal.invariant-loop-found
 invariant-loop-found g l = record {
-  at : (shape : _) → MayAsk g.S.Spec.object shape l.committed l.items l.fn.serial → IsAt g.S.Spec.object shape l.committed l.serial;
-  here : (shape : _) → MayAsk g.S.Spec.object shape l.committed l.items l.fn.serial
+  at : (shape : _) → MayAsk g.S.Spec.object shape l.committed l.items l.excluded l.fn.serial → IsAt g.S.Spec.object shape l.committed l.serial;
+  here : (shape : _) → MayAsk g.S.Spec.object shape l.committed l.items l.excluded l.fn.serial
       → IsTrue l.found ↔ Explains (rules_of g.S.Spec.object shape) l.committed l.items l.serial.count;
-  above : (shape : _) → MayAsk g.S.Spec.object shape l.committed l.items l.fn.serial
+  above : (shape : _) → MayAsk g.S.Spec.object shape l.committed l.items l.excluded l.fn.serial
       → (n : ℕ) → l.serial.count < n → n ≤ l.fn.serial.count → Explains (rules_of g.S.Spec.object shape) l.committed l.items n → ⊥;
   low : l.low ≤ l.serial.count;
   high : l.serial.count ≤ l.fn.serial.count;

@@ -16,8 +16,9 @@ ask-requires-clause-low g c =
     let more = c.apply.new.attempts.entries in
     let own = c.in_ok-apply-in-App.ensures.own in
     let least = c.in_ok-apply-in-App.ensures.least in
+    let excluded = c.in_ok-apply-in-App.ensures.excluded in
     let r = c.requires in
-    app_low o r.0 r.1 r.2 r.3 s D serial kept r.4 r.5 c.in-App.tx c.in-App.id c.in-App.op e more own least
+    app_low o r.0 r.1 r.2 r.3 s D serial kept r.4 r.5 c.in-App.tx c.in-App.id c.in-App.op e more own least excluded
 
 pub ask-requires-clause-ask : goal.ask-requires-clause-ask
 ask-requires-clause-ask g c =
@@ -30,8 +31,9 @@ ask-requires-clause-ask g c =
     let more = c.apply.new.attempts.entries in
     let own = c.in_ok-apply-in-App.ensures.own in
     let least = c.in_ok-apply-in-App.ensures.least in
+    let excluded = c.in_ok-apply-in-App.ensures.excluded in
     let r = c.requires in
-    (r.0, app_ask o r.0 r.1 r.2 r.3 s D serial kept r.4 r.5 c.in-App.tx c.in-App.id c.in-App.op e more own least)
+    (r.0, app_ask o r.0 r.1 r.2 r.3 s D serial kept r.4 r.5 c.in-App.tx c.in-App.id c.in-App.op e more own least excluded)
 
 pub advance-requires-clause-there : goal.advance-requires-clause-there
 advance-requires-clause-there g c =
@@ -62,7 +64,7 @@ returns-in_ok-begin-in-Begin-clause-follows g c = λ shape h past rest run f.
     let serial = c.args.replay.now.serial in
     let kept = c.args.replay.now.attempts.entries in
     take_begin o shape h past rest s D serial kept run f c.in-Begin.tx c.in-Begin.thread _ (ap meaning c.in-Begin.is) c.begin.new.attempts.entries
-    c.in_ok-begin-in-Begin.ensures.own c.in_ok-begin-in-Begin.ensures.least
+    c.in_ok-begin-in-Begin.ensures.own c.in_ok-begin-in-Begin.ensures.least c.in_ok-begin-in-Begin.ensures.excluded
 
 pub returns-then-explained-clause-follows : goal.returns-then-explained-clause-follows
 returns-then-explained-clause-follows g c = λ shape h past rest run f.
@@ -75,8 +77,11 @@ returns-then-explained-clause-follows g c = λ shape h past rest run f.
     let more = c.apply.new.attempts.entries in
     let own = c.in_ok-apply-in-App.ensures.own in
     let least = c.in_ok-apply-in-App.ensures.least in
-    take_app o shape h past rest s D serial kept run f c.in-App.tx c.in-App.id c.in-App.op e more own least c.ask.new.serial
-    (c.in_ok-explained-in-App.ensures.at shape (app_ask o shape h past rest s D serial kept run f c.in-App.tx c.in-App.id c.in-App.op e more own least)) c.in_ok-explained-in-App.ensures.count
+    let excluded = c.in_ok-apply-in-App.ensures.excluded in
+    let may = app_ask o shape h past rest s D serial kept run f c.in-App.tx c.in-App.id c.in-App.op e more own least excluded in
+    let said = c.in_ok-explained-in-App.ensures in
+    take_app o shape h past rest s D serial kept run f c.in-App.tx c.in-App.id c.in-App.op e more own least excluded c.ask.new.serial c.ask.new.attempts.entries
+    (said.at shape may) said.count said.own said.least said.others (said.excluded shape may)
 
 pub returns-else-explained-clause-follows : goal.returns-else-explained-clause-follows
 returns-else-explained-clause-follows g c = λ shape h past rest run f.
@@ -89,8 +94,11 @@ returns-else-explained-clause-follows g c = λ shape h past rest run f.
     let more = c.apply.new.attempts.entries in
     let own = c.in_ok-apply-in-App.ensures.own in
     let least = c.in_ok-apply-in-App.ensures.least in
-    take_app o shape h past rest s D serial kept run f c.in-App.tx c.in-App.id c.in-App.op e more own least c.ask.new.serial
-    (c.in_ok-explained-in-App.ensures.at shape (app_ask o shape h past rest s D serial kept run f c.in-App.tx c.in-App.id c.in-App.op e more own least)) c.in_ok-explained-in-App.ensures.count
+    let excluded = c.in_ok-apply-in-App.ensures.excluded in
+    let may = app_ask o shape h past rest s D serial kept run f c.in-App.tx c.in-App.id c.in-App.op e more own least excluded in
+    let said = c.in_ok-explained-in-App.ensures in
+    take_app o shape h past rest s D serial kept run f c.in-App.tx c.in-App.id c.in-App.op e more own least excluded c.ask.new.serial c.ask.new.attempts.entries
+    (said.at shape may) said.count said.own said.least said.others (said.excluded shape may)
 
 pub returns-then-explained-clause-seen : goal.returns-then-explained-clause-seen
 returns-then-explained-clause-seen g c = λ shape h past rest run f.
@@ -103,8 +111,9 @@ returns-then-explained-clause-seen g c = λ shape h past rest run f.
     let more = c.apply.new.attempts.entries in
     let own = c.in_ok-apply-in-App.ensures.own in
     let least = c.in_ok-apply-in-App.ensures.least in
-    app_seen o shape h past rest s D serial kept run f c.in-App.tx c.in-App.id c.in-App.op e more own least
-    ((c.in_ok-explained-in-App.ensures.decided shape (app_ask o shape h past rest s D serial kept run f c.in-App.tx c.in-App.id c.in-App.op e more own least)).0 c.if-explained.true)
+    let excluded = c.in_ok-apply-in-App.ensures.excluded in
+    app_seen o shape h past rest s D serial kept run f c.in-App.tx c.in-App.id c.in-App.op e more own least excluded
+    ((c.in_ok-explained-in-App.ensures.decided shape (app_ask o shape h past rest s D serial kept run f c.in-App.tx c.in-App.id c.in-App.op e more own least excluded)).0 c.if-explained.true)
 
 pub returns-else-explained-clause-seen : goal.returns-else-explained-clause-seen
 returns-else-explained-clause-seen g c = λ shape h past rest run f.
@@ -117,8 +126,9 @@ returns-else-explained-clause-seen g c = λ shape h past rest run f.
     let more = c.apply.new.attempts.entries in
     let own = c.in_ok-apply-in-App.ensures.own in
     let least = c.in_ok-apply-in-App.ensures.least in
-    app_unseen o shape h past rest s D serial kept run f c.in-App.tx c.in-App.id c.in-App.op e more own least
-    (λ k. let z : true ≡ false = sym ((c.in_ok-explained-in-App.ensures.decided shape (app_ask o shape h past rest s D serial kept run f c.in-App.tx c.in-App.id c.in-App.op e more own least)).1 k) ∙ c.if-explained.false in cc)
+    let excluded = c.in_ok-apply-in-App.ensures.excluded in
+    app_unseen o shape h past rest s D serial kept run f c.in-App.tx c.in-App.id c.in-App.op e more own least excluded
+    (λ k. let z : true ≡ false = sym ((c.in_ok-explained-in-App.ensures.decided shape (app_ask o shape h past rest s D serial kept run f c.in-App.tx c.in-App.id c.in-App.op e more own least excluded)).1 k) ∙ c.if-explained.false in cc)
 
 pub returns-in-Unapp-clause-follows : goal.returns-in-Unapp-clause-follows
 returns-in-Unapp-clause-follows g c = λ shape h past rest run f.
@@ -128,7 +138,7 @@ returns-in-Unapp-clause-follows g c = λ shape h past rest run f.
     let serial = c.args.replay.now.serial in
     let kept = c.args.replay.now.attempts.entries in
     take_unapp o shape h past rest s D serial kept run f c.in-Unapp.tx c.in-Unapp.id (ap meaning c.in-Unapp.is) c.unapply.new.attempts.entries
-    c.unapply.ensures.own c.unapply.ensures.others c.unapply.ensures.kept c.unapply.ensures.begins
+    c.unapply.ensures.own c.unapply.ensures.others c.unapply.ensures.kept c.unapply.ensures.begins c.unapply.ensures.excluded
 
 pub returns-in_ok-advance-in-Cmt-clause-follows : goal.returns-in_ok-advance-in-Cmt-clause-follows
 returns-in_ok-advance-in-Cmt-clause-follows g c = λ shape h past rest run f.
@@ -205,7 +215,8 @@ returns-in_err-explained-in-App-clause-bound g c = λ shape h past rest run f.
     let more = c.apply.new.attempts.entries in
     let own = c.in_ok-apply-in-App.ensures.own in
     let least = c.in_ok-apply-in-App.ensures.least in
-    app_spent o shape h past rest s D serial kept run f c.in-App.tx c.in-App.id c.in-App.op e more own least c.args.ticks.now c.ask.new.ticks c.in_err-explained-in-App.ensures.bound
+    let excluded = c.in_ok-apply-in-App.ensures.excluded in
+    app_spent o shape h past rest s D serial kept run f c.in-App.tx c.in-App.id c.in-App.op e more own least excluded c.args.ticks.now c.ask.new.ticks c.in_err-explained-in-App.ensures.bound
 
 pub returns-then-explained-clause-bound : goal.returns-then-explained-clause-bound
 returns-then-explained-clause-bound g c = λ shape h past rest run f.
@@ -218,7 +229,8 @@ returns-then-explained-clause-bound g c = λ shape h past rest run f.
     let more = c.apply.new.attempts.entries in
     let own = c.in_ok-apply-in-App.ensures.own in
     let least = c.in_ok-apply-in-App.ensures.least in
-    app_spent o shape h past rest s D serial kept run f c.in-App.tx c.in-App.id c.in-App.op e more own least c.args.ticks.now c.ask.new.ticks c.in_ok-explained-in-App.ensures.bound
+    let excluded = c.in_ok-apply-in-App.ensures.excluded in
+    app_spent o shape h past rest s D serial kept run f c.in-App.tx c.in-App.id c.in-App.op e more own least excluded c.args.ticks.now c.ask.new.ticks c.in_ok-explained-in-App.ensures.bound
 
 pub returns-else-explained-clause-bound : goal.returns-else-explained-clause-bound
 returns-else-explained-clause-bound g c = λ shape h past rest run f.
@@ -231,7 +243,8 @@ returns-else-explained-clause-bound g c = λ shape h past rest run f.
     let more = c.apply.new.attempts.entries in
     let own = c.in_ok-apply-in-App.ensures.own in
     let least = c.in_ok-apply-in-App.ensures.least in
-    app_spent o shape h past rest s D serial kept run f c.in-App.tx c.in-App.id c.in-App.op e more own least c.args.ticks.now c.ask.new.ticks c.in_ok-explained-in-App.ensures.bound
+    let excluded = c.in_ok-apply-in-App.ensures.excluded in
+    app_spent o shape h past rest s D serial kept run f c.in-App.tx c.in-App.id c.in-App.op e more own least excluded c.args.ticks.now c.ask.new.ticks c.in_ok-explained-in-App.ensures.bound
 
 pub returns-in_err-advance-in-Cmt-clause-bound : goal.returns-in_err-advance-in-Cmt-clause-bound
 returns-in_err-advance-in-Cmt-clause-bound g c = λ shape h past rest run f.
