@@ -2,7 +2,9 @@
 use Rattle.std.specs.Prelude.{◌≡◌, ℕ, List}
 use Rattle.std.proofs.Common.{refl, sym, ◌∙◌, subst}
 use mathlib.Core.Logic.{inl, inr}
+use Rattle.pp_core.specs.declared.call.Kind.{Kind}
 use Rattle.pp_core.specs.declared.call.Style.{Style}
+use Rattle.pp_core.specs.declared.call.Style.TheVariants.{Boosted}
 use Rattle.pp_core.specs.declared.status.Status.{Status}
 use Rattle.pp_core.specs.declared.status.Status.TheVariants as statuses
 use Rattle.pp_records.proofs.Whole.{one_run_law}
@@ -10,12 +12,13 @@ use Rattle.pp_records.specs.Expansions.{IsOfStyle}
 use Rattle.pp_records.specs.Records.{RunRecord}
 use Rattle.pp_records.specs.Runs.{Lined, bare, joined_steps, outset}
 use Rattle.pp_records.specs.Styles.{translation}
-use Rattle.pp_model.specs.Config.{first}
+use Rattle.pp_model.specs.Config.{Step, first}
 use Rattle.pp_model.specs.Lists.{In}
 use Rattle.pp_model.specs.Rules.{Accepted, RunsFrom, StartMeets}
 use Rattle.pp_model.proofs.Verdict.{accepted_iff}
 use Rattle.pp_objects.specs.Objects.{kinds_of, place_of}
 use Rattle.pp_objects.specs.declared.act.Op.{Op}
+use Rattle.pp_machine.specs.Machines.{Seen}
 use Rattle.pp_laws_opacity.proofs.Boosted.{boosted_opaque}
 use Rattle.pp_laws_opacity.proofs.Orders.{ordered}
 use Rattle.pp_laws_opacity.specs.Opacity.{IsOpaque}
@@ -26,6 +29,10 @@ use Rattle.pp_judge.specs.Inputs.{scan}
 use Rattle.pp_judge.specs.Objects.{object_of, start_of, translation_of}
 use Rattle.pp_judge.specs.Reports.{IsCertified}
 use Rattle.pp_judge.specs.Scans.{InputScan}
+use Rattle.pp_judge.specs.declared.progress.Tally.{Tally}
+use Rattle.pp_cmd_views.proofs.Telling.{own_run, steps_are}
+use Rattle.pp_cmd_views.specs.Taken.{HasSteps}
+use Rattle.pp_cmd_opaque.specs.Kept.{AreOfStyle}
 use Rattle.pp_cmd_opaque.specs.Meanings.{HasOpaqueRun, HasOrderedRun, IsBoostedOpaque, IsFirstZombie, IsOpaqueExactly, MeetsAll}
 use Rattle.pp_cmd_opaque.specs.Outputs.{IsOpaqueOutput, IsOutputOf, IsRunOutput, IsScanOutput, IsZombieText}
 use Rattle.pp_cmd_opaque.proofs.Zombies.{one_run_output, opaque_no_zombie, some_run_output}
@@ -167,3 +174,12 @@ boosted_run_opaque sc styled m boosted = λ q.
     let opaque = boosted_opaque (object_of h) place_of (kinds_of h.catalog) (start_of h) sc.records (λ r i. subst (λ (s : Style). IsOfStyle s r.what) boosted (styled m r i)) m.start runs in
     only_run sc (whole_run sc m) q (λ head run. IsOpaque (object_of head.what) (start_of head.what) (bare run))
     (subst (λ (s : Style). IsOpaque (object_of h) (start_of h) (Steps s)) (sym boosted) opaque)
+
+-- The steps that are kept of a run of style boosted are opaque.
+pub boosted_steps_opaque : (sc : InputScan) (tally : Tally) (machine : Seen (List Kind) Op) (steps : List (Step Op)) → HasSteps sc tally machine steps → AreOfStyle sc → tally.header.style ≡ Boosted
+    → IsOpaque (object_of tally.header) (start_of tally.header) steps
+boosted_steps_opaque sc tally machine steps h styled boosted =
+    let own = own_run sc tally machine steps h in
+    let m : EachStepMeets sc = record { header = own.header; first_line = own.first_line; start = h.running.stands.begun; steps = h.running.stands.hold } in
+    subst (λ (w : List (Step Op)). IsOpaque (object_of tally.header) (start_of tally.header) w) (sym (steps_are sc tally machine steps h))
+    (boosted_run_opaque sc (λ e. styled e.header e.first_line) m boosted own)

@@ -21,7 +21,7 @@ use Rattle.pp_judge.specs.declared.driven.Driven.{Driven}
 use Rattle.pp_judge.specs.declared.progress.Tally.{Tally}
 use Rattle.pp_cmd_views.proofs.Telling.{own_run}
 use Rattle.pp_cmd_views.specs.Taken.{HasSteps}
-use Rattle.pp_cmd_opaque.specs.Kept.{HasKept, HasKeptRun, lines_of}
+use Rattle.pp_cmd_opaque.specs.Kept.{AreOfStyle, HasKept, HasKeptRun, lines_of}
 use Rattle.pp_cmd_opaque.specs.declared.kept_run.KeptRun.{KeptRun}
 
 -- The lines of joined steps are those of the first, and then those of the second.
@@ -49,10 +49,11 @@ module _ (sc : InputScan) (tally : Tally) (judge : Driven KeptRun) (g : AreGood 
       }
 
   -- A machine that was driven through a run keeps its steps and their lines.
-  pub kept_run : HasKeptRun sc tally judge.machine judge.observer
-  kept_run = record {
+  pub kept_run : AreOfStyle sc → HasKeptRun sc tally judge.machine judge.observer
+  kept_run styled = record {
     steps = kept_steps;
     lines = λ r.
         let own = own_run sc tally judge.machine (meanings judge.observer.steps) kept_steps in
         only_run sc own r (λ head run. judge.observer.lines ≡ lines_of run) (g.good.1 own.run own.steps).1;
+    styled = styled;
   }

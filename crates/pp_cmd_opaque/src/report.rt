@@ -9,12 +9,12 @@ ghost use Rattle.pp_judge.specs.Certified.{IsDecided};
 ghost use Rattle.pp_judge.specs.Objects.{object_of, start_of};
 ghost use Rattle.pp_judge.specs.Scans.{InputScan};
 ghost use Rattle.pp_cmd_views.specs.Taken.{HasSteps};
-ghost use Rattle.pp_cmd_opaque.specs.Kept.{HasKeptRun};
+ghost use Rattle.pp_cmd_opaque.specs.Kept.{AreOfStyle, HasKeptRun};
 ghost use Rattle.pp_cmd_opaque.specs.Outputs.{IsScanOutput};
 
 use crate::kept_run::KeptRun;
 use crate::text::{opaque_text, zombie_text};
-use pp_core::{OutOfMemory, Status, Text, Ticks};
+use pp_core::{OutOfMemory, Status, Style, Text, Ticks};
 use pp_format_read::Header;
 use pp_judge::Tally;
 use pp_machine::Machine;
@@ -42,13 +42,18 @@ fn find_zombie<L: Ledger>(
     steps: &StepList<Op>,
     ticks: &mut Ticks<L>,
 ) -> Result<Option<Zombie<Op>>, OutOfMemory>
-    requires { (sc : InputScan) × HasSteps sc tally.now machine.now (meanings steps.now) }
+    requires { (sc : InputScan) × HasSteps sc tally.now machine.now (meanings steps.now)
+        × AreOfStyle sc }
     ensures found { IfOk result (IsFound (object_of tally.now.header) (start_of tally.now.header)
         (meanings steps.now)) }
     ensures rises { ticks.old ≤ ticks.new }
     ensures bound { ticks.new ≤ ticks.old + searching_at_most (start_of tally.now.header)
         (meanings steps.now) machine.now.config.done }
 {
+    // Each accepted run of style boosted is opaque.
+    if let Style::Boosted = tally.header.style {
+        return Ok(None);
+    }
     let kinds = tally.header.catalog.kinds(alloc)?;
     // It is here for what its clauses say of the machine.
     let _count = machine.count();

@@ -1,5 +1,6 @@
 use Rattle.std.proofs.Common.{subst, sym, inl, inr}
 use Rattle.pp_core.specs.declared.status.Status.TheVariants as statuses
+use Rattle.pp_input.specs.Limits.{usual_limits}
 use Rattle.pp_input_reader.proofs.Takers.{taken_all}
 use Rattle.pp_judge.proofs.Concluding.{rejected_evident}
 use Rattle.pp_judge.proofs.Running.{rejected_of}
@@ -7,6 +8,7 @@ use Rattle.pp_judge.specs.Driven.{driven_judging}
 use Rattle.pp_judge.specs.Findings.{Finds, RisesAtLeast}
 use Rattle.pp_judge.specs.Inputs.{scan}
 use Rattle.pp_judge.specs.Rejected.{IsEvident}
+use Rattle.pp_laws_runs.proofs.ScannedRecords.{scan_styled}
 use Rattle.pp_cmd_opaque.proofs.Keeping.{kept_run}
 use Rattle.pp_cmd_opaque.proofs.Reporting.{accepted_meets_all, accepted_output, fault_output, rejected_output, searched_least, searched_most, steps_most}
 use Rattle.pp_cmd_opaque.specs.Kept.{HasKept, HasKeptRun}
@@ -54,7 +56,7 @@ report_opacity-requires g c =
     let new = g.S.Source.left c.examine.new.source in
     let found = subst (Finds (driven_judging HasKept) old new) c.in-Accepted.is c.in_ok-line.ensures.found in
     let tally = c.in-Accepted.tally in
-    (scan found.0, subst (λ m. HasKeptRun (scan found.0) tally m c.in-Accepted.judge.observer) (sym c.into_machine-machine.ensures) (kept_run (scan found.0) tally c.in-Accepted.judge found.3))
+    (scan found.0, subst (λ m. HasKeptRun (scan found.0) tally m c.in-Accepted.judge.observer) (sym c.into_machine-machine.ensures) (kept_run (scan found.0) tally c.in-Accepted.judge found.3 (scan_styled usual_limits found.0)))
 
 pub returns-in_ok-report-in-Accepted-clause-output : goal.returns-in_ok-report-in-Accepted-clause-output
 returns-in_ok-report-in-Accepted-clause-output g c = λ bytes is.
@@ -63,7 +65,7 @@ returns-in_ok-report-in-Accepted-clause-output g c = λ bytes is.
     let found = subst (Finds (driven_judging HasKept) old new) c.in-Accepted.is c.in_ok-line.ensures.found in
     let tally = c.in-Accepted.tally in
     let machine = c.into_machine-machine.result in
-    let has = subst (λ m. HasKeptRun (scan found.0) tally m c.in-Accepted.judge.observer) (sym c.into_machine-machine.ensures) (kept_run (scan found.0) tally c.in-Accepted.judge found.3) in
+    let has = subst (λ m. HasKeptRun (scan found.0) tally m c.in-Accepted.judge.observer) (sym c.into_machine-machine.ensures) (kept_run (scan found.0) tally c.in-Accepted.judge found.3 (scan_styled usual_limits found.0)) in
     let report = c.in_ok-report-in-Accepted.report in
     subst (λ bs. IsOpaqueOutput bs report.0 report.1) (taken_all old new found.0 bytes found.1 found.2 is)
     (accepted_output found.0 tally machine has.steps.running report.0 report.1 (c.in_ok-report-in-Accepted.ensures.output (scan found.0) has))
@@ -75,7 +77,7 @@ returns-in_ok-report-in-Accepted-clause-shown g c = λ rejected bytes is.
     let found = subst (Finds (driven_judging HasKept) old new) c.in-Accepted.is c.in_ok-line.ensures.found in
     let tally = c.in-Accepted.tally in
     let machine = c.into_machine-machine.result in
-    let has = subst (λ m. HasKeptRun (scan found.0) tally m c.in-Accepted.judge.observer) (sym c.into_machine-machine.ensures) (kept_run (scan found.0) tally c.in-Accepted.judge found.3) in
+    let has = subst (λ m. HasKeptRun (scan found.0) tally m c.in-Accepted.judge.observer) (sym c.into_machine-machine.ensures) (kept_run (scan found.0) tally c.in-Accepted.judge found.3 (scan_styled usual_limits found.0)) in
     inr (subst (λ bs. MeetsAll bs) (taken_all old new found.0 bytes found.1 found.2 is) (accepted_meets_all found.0 tally machine has.steps.running))
 
 -- ---- what the counter shows
@@ -103,7 +105,7 @@ returns-in_ok-report-in-Accepted-clause-most g c = λ bytes is.
     let tally = c.in-Accepted.tally in
     let machine = c.into_machine-machine.result in
     let kept = c.in-Accepted.judge.observer in
-    let has = subst (λ m. HasKeptRun (scan found.0) tally m kept) (sym c.into_machine-machine.ensures) (kept_run (scan found.0) tally c.in-Accepted.judge found.3) in
+    let has = subst (λ m. HasKeptRun (scan found.0) tally m kept) (sym c.into_machine-machine.ensures) (kept_run (scan found.0) tally c.in-Accepted.judge found.3 (scan_styled usual_limits found.0)) in
     let h = subst (λ bs. HasKeptRun (scan bs) tally machine kept) (taken_all old new found.0 bytes found.1 found.2 is) has in
     searched_most (scan bytes) tally machine kept h c.args.ticks.now c.examine.new.ticks c.report_opacity.new.ticks (c.examine.ensures.most bytes is) c.report_opacity.ensures.bound
 
@@ -115,7 +117,7 @@ returns-in_err-report-in-Accepted-clause-most g c = λ bytes is.
     let tally = c.in-Accepted.tally in
     let machine = c.into_machine-machine.result in
     let kept = c.in-Accepted.judge.observer in
-    let has = subst (λ m. HasKeptRun (scan found.0) tally m kept) (sym c.into_machine-machine.ensures) (kept_run (scan found.0) tally c.in-Accepted.judge found.3) in
+    let has = subst (λ m. HasKeptRun (scan found.0) tally m kept) (sym c.into_machine-machine.ensures) (kept_run (scan found.0) tally c.in-Accepted.judge found.3 (scan_styled usual_limits found.0)) in
     let h = subst (λ bs. HasKeptRun (scan bs) tally machine kept) (taken_all old new found.0 bytes found.1 found.2 is) has in
     searched_most (scan bytes) tally machine kept h c.args.ticks.now c.examine.new.ticks c.report_opacity.new.ticks (c.examine.ensures.most bytes is) c.report_opacity.ensures.bound
 

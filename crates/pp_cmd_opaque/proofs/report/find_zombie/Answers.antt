@@ -12,8 +12,13 @@ use Rattle.pp_opacity.specs.Costs.{searching_at_most}
 use Rattle.pp_opacity.specs.Results.{IsFound, IsRun}
 use Rattle.pp_styles.specs.Meanings.{meanings}
 use Rattle.pp_judge.specs.Objects.{start_of}
+use Rattle.pp_cmd_opaque.proofs.Deciding.{boosted_steps_opaque}
 use Rattle.pp_cmd_opaque.proofs.Searching.{run_searched}
 use Rattle.pp_cmd_opaque.proofs.report.find_zombie.Goals as goal
+
+pub returns-in-Boosted-clause-found : goal.returns-in-Boosted-clause-found
+returns-in-Boosted-clause-found g c =
+    boosted_steps_opaque c.requires.0 c.args.tally.now c.args.machine.now (meanings c.args.steps.now) c.requires.1 c.requires.2 c.in-Boosted.is
 
 pub first_zombie-requires : goal.first_zombie-requires
 first_zombie-requires g c =
