@@ -1,5 +1,5 @@
 #!/usr/bin/env python3
-"""Compares `judge` with `certify` and with the plain definition, on random runs of a style that it judges.
+"""Compares `judge` with `certify` and with the plain definition, on random runs of a style.
 
     python3 bench/judge.py PROGRAM [--style boosted] [--count N] [--long N] [--seed S] [--jobs J]
 
@@ -33,6 +33,8 @@ CRITERIA = {
     "rules": (*IN_ALL_STYLES, *IN_RULES),
     "boosted": (*IN_ALL_STYLES, "PUSH 4"),
     "optimistic": (*IN_ALL_STYLES, "PULL 4"),
+    "hardware": (*IN_ALL_STYLES,),
+    "dependent": (*IN_ALL_STYLES,),
 }
 
 # The limits of `certify` that `judge` raises.

@@ -31,9 +31,9 @@ use Rattle.pp_judge.specs.Causes.{cause_of}
 use Rattle.pp_judge.specs.Inputs.{no_header}
 use Rattle.pp_judge.specs.Scans.{InputScan, begins, is_begin_record, nothing, read_line, scan_line, scan_lines}
 use Rattle.pp_judge.specs.Scans.{with_fault, with_header, with_next, with_record}
-use Rattle.pp_cmd_quick.specs.Decisions.{style_fault}
 use Rattle.pp_cmd_judge.specs.Inputs.{judge_limits, judge_scan}
-use Rattle.pp_cmd_judge.specs.Judgements.{is_judged, judge_fault}
+use Rattle.pp_cmd_judge.specs.Judgements.{IsJudgeFault}
+use Rattle.pp_cmd_judge.proofs.OtherCauses.{not_faulty}
 
 -- ---- the lines that are scanned are no more than the limit
 
@@ -214,18 +214,13 @@ no_header_any : (bytes : List ℕ) (o : Option (Lined Header)) → AnyBegins (no
 no_header_any bytes (Some header) = none_many
 no_header_any bytes None = other_cause _ causes.NoHeader (λ no. absurd (cc))
 
-style_any : (o : Option (Lined Header)) (fault : Option (ℕ × Cause)) → AnyBegins fault → AnyBegins (style_fault is_judged causes.StyleNotJudged o fault)
-style_any None fault any = any
-style_any (Some header) fault any = by (is_judged header.what.style)
-  where
-    by : (b : Bool) → AnyBegins (cond b fault (Some (header.line, causes.StyleNotJudged)))
-    by true = any
-    by false = other_cause header.line causes.StyleNotJudged (λ no. absurd (cc))
+-- the scan of an input has no fault that it has too many transactions
+scanned : (bytes : List ℕ) → AnyBegins (judge_scan bytes).fault
+scanned bytes =
+    let sc : InputScan = scan_lines judge_limits.transactions (scanned_lines judge_limits bytes) in
+    or_any sc.fault (option_or (limit_fault (overrun judge_limits bytes)) (no_header bytes sc.header)) (lines_few nothing (scanned_lines judge_limits bytes) (none_many, none_yet (length (scanned_lines judge_limits bytes)) (scanned_few judge_limits bytes)))
+    (or_any (limit_fault (overrun judge_limits bytes)) (no_header bytes sc.header) (limit_any (overrun judge_limits bytes)) (no_header_any bytes sc.header))
 
 -- the fault of an input is never that it has too many transactions
-pub any_begins : (bytes : List ℕ) (line : ℕ) → judge_fault (judge_scan bytes) ≡ Some (line, causes.TooManyTransactions) → ⊥
-any_begins bytes =
-    let sc : InputScan = scan_lines judge_limits.transactions (scanned_lines judge_limits bytes) in
-    style_any (judge_scan bytes).header (judge_scan bytes).fault
-    (or_any sc.fault (option_or (limit_fault (overrun judge_limits bytes)) (no_header bytes sc.header)) (lines_few nothing (scanned_lines judge_limits bytes) (none_many, none_yet (length (scanned_lines judge_limits bytes)) (scanned_few judge_limits bytes)))
-    (or_any (limit_fault (overrun judge_limits bytes)) (no_header bytes sc.header) (limit_any (overrun judge_limits bytes)) (no_header_any bytes sc.header)))
+pub any_begins : (bytes : List ℕ) (line : ℕ) → IsJudgeFault (judge_scan bytes) (Some (line, causes.TooManyTransactions)) → ⊥
+any_begins bytes = not_faulty (judge_scan bytes) causes.TooManyTransactions (λ no. absurd (cc)) (scanned bytes)

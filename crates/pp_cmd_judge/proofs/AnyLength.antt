@@ -16,8 +16,8 @@ use Rattle.pp_input_reader.specs.declared.cause.Cause.TheVariants as causes
 use Rattle.pp_input_reader.specs.Limits.{limit_fault}
 use Rattle.pp_judge.specs.Causes.{cause_of}
 use Rattle.pp_cmd_judge.specs.Inputs.{judge_limits, judge_scan}
-use Rattle.pp_cmd_judge.specs.Judgements.{judge_fault}
-use Rattle.pp_cmd_judge.proofs.OtherCauses.{IsApart, IsOther, never, none_other, some_other}
+use Rattle.pp_cmd_judge.specs.Judgements.{IsJudgeFault}
+use Rattle.pp_cmd_judge.proofs.OtherCauses.{IsApart, IsOther, never, none_other, not_faulty, some_other}
 
 -- ---- the limit that is passed
 
@@ -121,9 +121,8 @@ apart = record {
   read = cause_any;
   many = λ no. absurd (cc);
   header = λ no. absurd (cc);
-  style = λ no. absurd (cc);
 }
 
 -- the fault of an input is never that it has too many bytes
-pub any_length : (bytes : List ℕ) (line : ℕ) → judge_fault (judge_scan bytes) ≡ Some (line, causes.TooLong) → ⊥
-any_length bytes = never causes.TooLong apart bytes (limit_fault_any (overrun judge_limits bytes) (limit_any bytes))
+pub any_length : (bytes : List ℕ) (line : ℕ) → IsJudgeFault (judge_scan bytes) (Some (line, causes.TooLong)) → ⊥
+any_length bytes = not_faulty (judge_scan bytes) causes.TooLong (λ no. absurd (cc)) (never causes.TooLong apart bytes (limit_fault_any (overrun judge_limits bytes) (limit_any bytes)))

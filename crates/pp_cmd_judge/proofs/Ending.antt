@@ -53,6 +53,24 @@ pub front_there : {A : Type 0} (xs : List A) (x : A) → take (length xs) (xs ++
 front_there [] x = refl
 front_there {A} (y ∷ ys) x = ap (λ (w : List A). y ∷ w) (front_there ys x)
 
+-- the place that the length of a front says has the element after the front
+pub seam_there : {A : Type 0} (xs : List A) (x : A) (ys : List A) → slice_get (xs ++ x ∷ ys) (length xs) ≡ Some x
+seam_there [] x ys = refl
+seam_there (y ∷ xs) x ys = seam_there xs x ys
+
+-- the elements before that place are the front
+pub seam_before : {A : Type 0} (xs : List A) (x : A) (ys : List A) → take (length xs) (xs ++ x ∷ ys) ≡ xs
+seam_before [] x ys = refl
+seam_before {A} (y ∷ xs) x ys = ap (λ (w : List A). y ∷ w) (seam_before xs x ys)
+
+-- a list that is longer than a number has a front of so many elements, and an element after it
+pub parted_at : {A : Type 0} (xs : List A) (n : ℕ) → n < length xs → (front : List A) × (x : A) × (behind : List A) × (xs ≡ front ++ x ∷ behind) × (length front ≡ n)
+parted_at [] n short = absurd (omega (arith, short))
+parted_at (x ∷ xs) zero short = ([], x, xs, refl, refl)
+parted_at {A} (x ∷ xs) (suc n) short =
+    let k = parted_at xs n (omega (arith, short)) in
+    (x ∷ k.0, k.1, k.2, ap (λ (w : List A). x ∷ w) k.3, ap (λ (m : ℕ). suc m) k.4)
+
 one_more_is : (m n : ℕ) → m ≡ n → 1 + m ≡ suc n
 one_more_is m n e = omega (arith, e)
 
@@ -83,6 +101,27 @@ module _ {F R Op State : Type 0} (O : Object Op State) (T : Translation F R Op) 
   count_next =
       ap (λ (w : LinedSteps Op). length w) (steps_with [] ∙ ap (λ (w : LinedSteps Op). all ++ w) (append-nil (on_line r.line ss)))
       ∙ length-append all (on_line r.line ss) ∙ ap (λ (n : ℕ). length all + n) (length_on_line r.line ss)
+
+  -- ---- a step of it
+
+  -- the steps before the step at a place, and those after it
+  abbrev pub before_it : ℕ → LinedSteps Op
+  before_it k = all ++ on_line r.line (take k ss)
+
+  abbrev pub after_it : ℕ → Records R → LinedSteps Op
+  after_it k more = on_line r.line (drop (suc k) ss) ++ rest more
+
+  -- all steps are those before the step at a place of the record, this step, and those after it
+  pub parted : (k : ℕ) (s : Step Op) → slice_get ss k ≡ Some s → (more : Records R) →
+      all_steps T h (rs ++ r ∷ more) ≡ before_it k ++ record { line = r.line; what = s } ∷ after_it k more
+  parted k s there more =
+      let last : Lined (Step Op) = record { line = r.line; what = s } in
+      let own_parts : on_line r.line ss ≡ on_line r.line (take k ss) ++ last ∷ on_line r.line (drop (suc k) ss) =
+      ap (λ (w : List (Step Op)). on_line r.line w) (parted_there ss k s there) ∙ on_line_append r.line (take k ss) (s ∷ drop (suc k) ss) in
+      steps_with more
+      ∙ ap (λ (w : LinedSteps Op). all ++ (w ++ rest more)) own_parts
+      ∙ ap (λ (w : LinedSteps Op). all ++ w) (append_assoc (on_line r.line (take k ss)) (last ∷ on_line r.line (drop (suc k) ss)) (rest more))
+      ∙ sym (append_assoc all (on_line r.line (take k ss)) (last ∷ after_it k more))
 
   -- ---- a step of it that violates a criterion
 
@@ -129,17 +168,10 @@ module _ {F R Op State : Type 0} (O : Object Op State) (T : Translation F R Op) 
         ∙ ap (λ (m : ℕ). length all + m) (length_on_line r.line (take k ss) ∙ count_before ss k s there)
 
     abbrev behind : Records R → LinedSteps Op
-    behind more = on_line r.line (drop (suc k) ss) ++ rest more
-
-    own_parts : on_line r.line ss ≡ on_line r.line (take k ss) ++ last ∷ on_line r.line (drop (suc k) ss)
-    own_parts = ap (λ (w : List (Step Op)). on_line r.line w) (parted_there ss k s there) ∙ on_line_append r.line (take k ss) (s ∷ drop (suc k) ss)
+    behind more = after_it k more
 
     whole : (more : Records R) → all_steps T h (rs ++ r ∷ more) ≡ front ++ last ∷ behind more
-    whole more =
-        steps_with more
-        ∙ ap (λ (w : LinedSteps Op). all ++ (w ++ rest more)) own_parts
-        ∙ ap (λ (w : LinedSteps Op). all ++ w) (append_assoc (on_line r.line (take k ss)) (last ∷ on_line r.line (drop (suc k) ss)) (rest more))
-        ∙ sym (append_assoc all (on_line r.line (take k ss)) (last ∷ behind more))
+    whole more = parted k s there more
 
     -- the run that ends with the step is that of the records with its own, whatever records come after them
     pub run_is : (more : Records R) → IsRun O T h (rs ++ r ∷ more) run

@@ -5,9 +5,11 @@ pub mod BoostedJudging
 pub mod OptimisticReading
 pub mod OptimisticJudging
 pub mod RuleSteps
+pub mod DrivenRecords
+pub mod DrivenJudging
 pub mod StyleJudging
-pub mod AnyBegins
 pub mod OtherCauses
+pub mod AnyBegins
 pub mod AnyLength
 pub mod AnySteps
 pub mod Judged

@@ -1,8 +1,9 @@
--- A cause that no line and no limit of an input has is not its fault for `judge`.
+-- A cause that no line and no limit of an input has is not its fault for `judge`, unless it is TooManySteps.
 use Rattle.std.specs.Prelude.{◌≡◌, ◌==◌, ◌&&◌, ◌||◌, ℕ, Bool, true, false, cond, fold, is_some, List, [], ◌∷◌, Option, None, Some, Result, Ok, Err}
 use Rattle.std.specs.Option.{option_or}
-use Rattle.std.proofs.Common.{ap}
+use Rattle.std.proofs.Common.{sym, ap}
 use Rattle.std.proofs.lemmas.Option.{same_Some}
+use mathlib.Core.Logic.{inl, inr}
 use Rattle.pp_core.specs.declared.answer.OutOfMemory.{OutOfMemory}
 use Rattle.pp_records.specs.Records.{RunRecord}
 use Rattle.pp_records.specs.Runs.{Lined}
@@ -20,16 +21,14 @@ use Rattle.pp_judge.specs.Causes.{cause_of}
 use Rattle.pp_judge.specs.Inputs.{no_header}
 use Rattle.pp_judge.specs.Scans.{InputScan, begins, is_begin_record, nothing, read_line, scan_line, scan_lines}
 use Rattle.pp_judge.specs.Scans.{with_fault, with_header, with_next, with_record}
-use Rattle.pp_cmd_quick.specs.Decisions.{style_fault}
 use Rattle.pp_cmd_judge.specs.Inputs.{judge_limits, judge_scan}
-use Rattle.pp_cmd_judge.specs.Judgements.{is_judged, judge_fault}
+use Rattle.pp_cmd_judge.specs.Judgements.{IsJudgeFault}
 
 -- the cause is none that a line has by itself, or that the whole input has
 pub record IsApart (cause : Cause) : Type 0 where
   pub read : (fault : RecordFault) → cause_of fault ≡ Ok cause → ⊥
   pub many : causes.TooManyTransactions ≡ cause → ⊥
   pub header : causes.NoHeader ≡ cause → ⊥
-  pub style : causes.StyleNotJudged ≡ cause → ⊥
 
 -- the fault is not of this cause
 abbrev pub IsOther : Cause → Option (ℕ × Cause) → Type 0
@@ -88,18 +87,14 @@ module _ (cause : Cause) where
     no_header_other bytes (Some header) = none_other
     no_header_other bytes None = some_other _ causes.NoHeader apart.header
 
-    style_other : (o : Option (Lined Header)) (fault : Option (ℕ × Cause)) → IsOther cause fault → IsOther cause (style_fault is_judged causes.StyleNotJudged o fault)
-    style_other None fault any = any
-    style_other (Some header) fault any = by (is_judged header.what.style)
-      where
-        by : (b : Bool) → IsOther cause (cond b fault (Some (header.line, causes.StyleNotJudged)))
-        by true = any
-        by false = some_other header.line causes.StyleNotJudged apart.style
-
-    -- the fault of an input is not of this cause, if it is not that a limit is passed
-    pub never : (bytes : List ℕ) → IsOther cause (limit_fault (overrun judge_limits bytes)) → IsOther cause (judge_fault (judge_scan bytes))
+    -- the scan of an input has no fault of this cause, if it is not that a limit is passed
+    pub never : (bytes : List ℕ) → IsOther cause (limit_fault (overrun judge_limits bytes)) → IsOther cause (judge_scan bytes).fault
     never bytes limit =
         let sc : InputScan = scan_lines judge_limits.transactions (scanned_lines judge_limits bytes) in
-        style_other (judge_scan bytes).header (judge_scan bytes).fault
-        (or_other sc.fault (option_or (limit_fault (overrun judge_limits bytes)) (no_header bytes sc.header)) (lines_other nothing (scanned_lines judge_limits bytes) none_other)
-        (or_other (limit_fault (overrun judge_limits bytes)) (no_header bytes sc.header) limit (no_header_other bytes sc.header)))
+        or_other sc.fault (option_or (limit_fault (overrun judge_limits bytes)) (no_header bytes sc.header)) (lines_other nothing (scanned_lines judge_limits bytes) none_other)
+        (or_other (limit_fault (overrun judge_limits bytes)) (no_header bytes sc.header) limit (no_header_other bytes sc.header))
+
+-- if the fault of a scan is not of a cause, nor is the fault of the input, unless the cause is TooManySteps
+pub not_faulty : (sc : InputScan) (cause : Cause) → (causes.TooManySteps ≡ cause → ⊥) → IsOther cause sc.fault → (line : ℕ) → IsJudgeFault sc (Some (line, cause)) → ⊥
+not_faulty sc cause other scanned line (inl k) = some_other cause k.0 causes.TooManySteps other line (sym k.2)
+not_faulty sc cause other scanned line (inr k) = scanned line (sym k.1)

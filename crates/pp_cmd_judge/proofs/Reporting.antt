@@ -2,10 +2,11 @@
 use Rattle.std.specs.Prelude.{◌≡◌, ◌≤◌, ◌+◌, ℕ, List, [], length, map, Option, None, Some}
 use Rattle.std.proofs.Common.{refl, sym, ap, ◌∙◌, subst, arith}
 use Rattle.std.proofs.lemmas.List.{append-nil}
+use mathlib.Core.Logic.{inr}
 use Rattle.pp_core.specs.declared.entry.CommittedTx.{CommittedTx}
 use Rattle.pp_core.specs.declared.status.Status.{Status}
 use Rattle.pp_core.specs.declared.status.Status.TheVariants as statuses
-use Rattle.pp_records.specs.Inputs.{Accepts, Faulty, IsReportBehind, IsRunReport}
+use Rattle.pp_records.specs.Inputs.{Accepts, Faulty, IsRunReport}
 use Rattle.pp_records.specs.Records.{RunRecord}
 use Rattle.pp_records.specs.Runs.{IsRun, Lined, LinedSteps, Records, bare}
 use Rattle.pp_records.proofs.Whole.{one_run_law}
@@ -37,10 +38,10 @@ use Rattle.pp_cmd_quick.specs.Decisions.{steps_behind}
 use Rattle.pp_cmd_judge.specs.Acceptances.{IsAcceptedBehind}
 use Rattle.pp_cmd_judge.specs.Costs.{JudgeCostsAtMost, JudgedCostAtMost, SerialCostAtLeast, SerialCostAtMost}
 use Rattle.pp_cmd_judge.specs.Inputs.{judge_scan}
-use Rattle.pp_cmd_judge.specs.Judgements.{IsJudgeOutput, IsJudgedEvident, IsJudgement, judge_fault}
+use Rattle.pp_cmd_judge.specs.Judgements.{IsJudgeFault, IsJudgeOutput, IsJudgedEvident, IsJudgement, PassesStepsOn}
 use Rattle.pp_cmd_judge.specs.Rejections.{IsRejectedBehind}
 use Rattle.pp_cmd_judge.specs.StyleJudging.{done_of, shape_of, step_count, style_judging}
-use Rattle.pp_cmd_judge.specs.StyleLaws.{good_style, judged_fault}
+use Rattle.pp_cmd_judge.specs.StyleLaws.{good_few, rejected_few}
 use Rattle.pp_cmd_judge.specs.declared.style_judge.StyleJudge.{StyleJudge}
 use Rattle.pp_cmd_judge.proofs.Judged.{one_judgement}
 use Rattle.pp_cmd_judge.proofs.StyleJudging.{accepted_by, shape_is}
@@ -48,14 +49,14 @@ use Rattle.pp_cmd_judge.proofs.StyleJudging.{accepted_by, shape_is}
 -- ---- a fault
 
 -- an input with a fault is reported by the text of that fault and the status InputFault
-pub fault_reported : (bytes : List ℕ) (line : ℕ) (cause : Cause) (text : List ℕ) → judge_fault (judge_scan bytes) ≡ Some (line, cause) → text ≡ fault_text line cause → IsJudgeOutput bytes statuses.InputFault text
+pub fault_reported : (bytes : List ℕ) (line : ℕ) (cause : Cause) (text : List ℕ) → IsJudgeFault (judge_scan bytes) (Some (line, cause)) → text ≡ fault_text line cause → IsJudgeOutput bytes statuses.InputFault text
 fault_reported bytes line cause text is text_is =
     let report : RunReport = Faulty line cause in
-    (report, subst (λ (o : Option (ℕ × Cause)). IsReportBehind setting_of o (judge_scan bytes) report) (sym is) refl, told_fault (judge_scan bytes).header line cause text text_is)
+    (report, (Some (line, cause), is, refl), told_fault (judge_scan bytes).header line cause text text_is)
 
 -- an input without a fault is reported as its run is
-pub run_reported : (bytes : List ℕ) (status : Status) (text : List ℕ) → judge_fault (judge_scan bytes) ≡ None → IsRunTold (judge_scan bytes) status text → IsJudgeOutput bytes status text
-run_reported bytes status text none told = (told.0, subst (λ (o : Option (ℕ × Cause)). IsReportBehind setting_of o (judge_scan bytes) told.0) (sym none) told.1, told.2)
+pub run_reported : (bytes : List ℕ) (status : Status) (text : List ℕ) → IsJudgeFault (judge_scan bytes) None → IsRunTold (judge_scan bytes) status text → IsJudgeOutput bytes status text
+run_reported bytes status text none told = (told.0, (None, none, told.1), told.2)
 
 -- ---- an accepted run
 
@@ -77,9 +78,12 @@ module _ (sc : InputScan) (tally : Tally) (judge : StyleJudge) (g : AreGood styl
   shape_so = shape_is (headed g.follows.at h) sc.records judge g.good
 
   -- a scan whose start and records are all good has no fault
-  pub accepted_sound : judge_fault sc ≡ None
+  pub accepted_sound : IsJudgeFault sc None
   accepted_sound =
-      judged_fault sc (headed g.follows.at h) g.follows.header (good_style (headed g.follows.at h) sc.records judge g.good) ∙ g.follows.sound
+      inr (
+        λ line over. good_few (headed g.follows.at h) sc.records judge g.good line (subst (λ (o : Option (Lined Header)). PassesStepsOn o sc.records line) g.follows.header over),
+        sym g.follows.sound,
+      )
 
   verdict : IsVerdict (object_of h) (start_of h) (bare all) Accepted
   verdict = (accepted_iff (object_of h) (start_of h) (bare all)).1 accepted_so.hold
@@ -141,10 +145,12 @@ module _ (sc : InputScan) (tally : Tally) (rejection : Rejection) (b : AreReject
   rejected_so = b.bad.rejected
 
   -- a scan of which the start or a record is rejected has no fault
-  pub rejected_sound : judge_fault sc ≡ None
+  pub rejected_sound : IsJudgeFault sc None
   rejected_sound =
-      let h = headed b.follows.at tally.header in
-      judged_fault sc h b.follows.header b.bad.style ∙ b.follows.sound
+      inr (
+        λ line over. rejected_few (headed b.follows.at tally.header) sc.records rejection b.bad line (subst (λ (o : Option (Lined Header)). PassesStepsOn o sc.records line) b.follows.header over),
+        sym b.follows.sound,
+      )
 
   rejected_report : Reports sc sc.header (RejectedTold tally.header rejection)
   rejected_report =
@@ -163,7 +169,7 @@ module _ (sc : InputScan) (tally : Tally) (rejection : Rejection) (b : AreReject
   pub rejected_evident : IsJudgedEvident sc
   rejected_evident report is =
       let k = rejected_report in
-      let own : IsJudgement sc k.0 = subst (λ (o : Option (ℕ × Cause)). IsReportBehind setting_of o sc k.0) (sym rejected_sound) k.1 in
+      let own : IsJudgement sc k.0 = (None, rejected_sound, k.1) in
       subst (λ (w : RunReport). TellsEvident sc.header w) (one_judgement sc k.0 report own is) k.2.1
 
 -- ---- what it costs without a serial run

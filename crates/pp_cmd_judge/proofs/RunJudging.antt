@@ -23,10 +23,9 @@ use Rattle.pp_cmd_quick.specs.Decisions.{steps_behind}
 use Rattle.pp_cmd_judge.specs.Costs.{JudgedCostAtMost, StyleCostAtMost, StyleGoodCostAtLeast, StyleRejectedCostAtLeast}
 use Rattle.pp_cmd_judge.specs.EngineLaws.{EngineLaws}
 use Rattle.pp_cmd_judge.specs.Engines.{AreCounted, CanTake, CostsAtMost, EngineOf, Finds, Found, HasSteps, Refuses, Starts, TakesGood, own}
-use Rattle.pp_cmd_judge.specs.Judgements.{is_judged}
 use Rattle.pp_cmd_judge.specs.Rejections.{IsRejectedBehind}
 use Rattle.pp_cmd_judge.specs.StyleJudging.{IsGoodBy, IsRejectedBy, style_judging}
-use Rattle.pp_cmd_judge.specs.StyleLaws.{good_style}
+use Rattle.pp_cmd_judge.specs.StyleLaws.{any_few, any_style_of}
 use Rattle.pp_cmd_judge.specs.declared.run_judge.RunJudge.{RunJudge}
 use Rattle.pp_cmd_judge.proofs.Ending.{count_next}
 use Rattle.pp_cmd_judge.proofs.Violating.{found_below, rejected_by, rejection_by}
@@ -38,16 +37,16 @@ pub begun_good_least : (s : Style) (line : ℕ) (h : Header) (old new : ℕ) →
 begun_good_least styles.Rules line h old new rises = driven.begun_good_least line h old new rises
 begun_good_least styles.Boosted line h old new rises = quick.begun_good_least line h old new rises
 begun_good_least styles.Optimistic line h old new rises = quick.begun_good_least line h old new rises
-begun_good_least styles.Hardware line h old new rises = tt
-begun_good_least styles.Dependent line h old new rises = tt
+begun_good_least styles.Hardware line h old new rises = driven.begun_good_least line h old new rises
+begun_good_least styles.Dependent line h old new rises = driven.begun_good_least line h old new rises
 
 -- a counter that does not fall meets the lower bound of a rejected header without records, in every style
 pub begun_bad_least : (s : Style) (line : ℕ) (h : Header) (old new : ℕ) → old ≤ new → StyleRejectedCostAtLeast s (scan_of (headed line h) []) old new
 begun_bad_least styles.Rules line h old new rises = driven.begun_bad_least line h old new rises
 begun_bad_least styles.Boosted line h old new rises = quick.begun_bad_least line h old new
 begun_bad_least styles.Optimistic line h old new rises = quick.begun_bad_least line h old new
-begun_bad_least styles.Hardware line h old new rises = tt
-begun_bad_least styles.Dependent line h old new rises = tt
+begun_bad_least styles.Hardware line h old new rises = driven.begun_bad_least line h old new rises
+begun_bad_least styles.Dependent line h old new rises = driven.begun_bad_least line h old new rises
 
 -- ---- numbers
 
@@ -83,9 +82,9 @@ module _ {E : Type 0} (W : EngineOf E) (laws : EngineLaws W) where
     -- if it does not, the judge rejects it by any rejection on its line that the run ends with
     pub begun_bad : (engine : E) (rejection : Rejection) → Starts W h false engine → rejection.line ≡ line → IsRejectedBehind (headed line h) [] rejection → IsRejectedBy (headed line h) [] rejection
     begun_bad engine rejection bad is rejected = record {
-      style = ap (λ (s : Style). is_judged s) styled ∙ laws.judged;
       fails = inl (bad, is);
       rejected = rejected;
+      few = λ more line over. bad over.1;
     }
 
     -- the bound of the engine's style is that of the header's
@@ -176,9 +175,9 @@ module _ {E : Type 0} (W : EngineOf E) (laws : EngineLaws W) where
           let c = laws.own_good (headed at h) rs judge good in
           let found : Found h rs r x (kinds_of h.catalog) h.style = finds h rs (refuses.stays h rs c.good) in
           record {
-            style = good_style (headed at h) rs (W.wrap judge) good;
             fails = inr (record { line = line; what = r }, refuses.fails h rs c.good line, refl);
             rejected = rejected_by h rs r x judge.steps c.steps (laws.hold h rs judge.engine c.good) found at line readable;
+            few = λ more. any_few (headed at h) (any_style_of W laws h rs judge c) (one_more rs line r ++ more);
           };
       least = λ at rs good old least.
           let c = laws.own_good (headed at h) rs judge good in

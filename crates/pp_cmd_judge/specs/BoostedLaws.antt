@@ -74,7 +74,7 @@ boosted_first old = (
 
 pub boosted_laws : EngineLaws boosted_engine
 boosted_laws = record {
-  judged = refl;
+  any_steps = refl;
   style = λ h rs quick good. good.style;
   hold = all_hold;
   good = λ h rs judge c. c;

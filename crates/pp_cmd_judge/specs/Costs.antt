@@ -17,25 +17,27 @@ use Rattle.pp_cmd_judge.specs.RulesCosts.{AllCostAtMost}
 
 -- ---- without the serial run
 
--- The counter rises at most by what the judge of a style costs. A style that is not judged costs
--- nothing.
+-- The counter rises at most by what the judge of a style costs. In styles rules, hardware and
+-- dependent that is what the start and the steps of the run cost.
 abbrev pub StyleCostAtMost : Style → InputScan → (old new : ℕ) → Type 0
 StyleCostAtMost styles.Rules sc old new = AllCostAtMost sc old new
 StyleCostAtMost styles.Boosted sc old new = BoostedCostAtMost sc old new
 StyleCostAtMost styles.Optimistic sc old new = OptimisticCostAtMost sc old new
-StyleCostAtMost styles.Hardware sc old new = new ≡ old
-StyleCostAtMost styles.Dependent sc old new = new ≡ old
+StyleCostAtMost styles.Hardware sc old new = AllCostAtMost sc old new
+StyleCostAtMost styles.Dependent sc old new = AllCostAtMost sc old new
 
--- If all steps meet their criteria, the counter rises at least so. In style rules it is by what
--- expanding the run costs at least, and in styles boosted and optimistic by one for each record that
--- is an operation.
+-- If all steps meet their criteria, the counter rises at least so. In styles rules, hardware and
+-- dependent it is by what expanding the run costs at least, and in styles boosted and optimistic by
+-- one for each record that is an operation.
 abbrev pub StyleGoodCostAtLeast : Style → InputScan → (old new : ℕ) → Type 0
 StyleGoodCostAtLeast styles.Rules sc old new =
     StepsCostAtLeast statuses.Accepted sc old new
 StyleGoodCostAtLeast styles.Boosted sc old new = old + count_ops (bare sc.records) ≤ new
 StyleGoodCostAtLeast styles.Optimistic sc old new = old + count_ops (bare sc.records) ≤ new
-StyleGoodCostAtLeast styles.Hardware sc old new = Unit {0}
-StyleGoodCostAtLeast styles.Dependent sc old new = Unit {0}
+StyleGoodCostAtLeast styles.Hardware sc old new =
+    StepsCostAtLeast statuses.Accepted sc old new
+StyleGoodCostAtLeast styles.Dependent sc old new =
+    StepsCostAtLeast statuses.Accepted sc old new
 
 -- If the start or a step violates a criterion, it rises at least so. In styles boosted and optimistic
 -- only the records before that of the step count.
@@ -44,8 +46,10 @@ StyleRejectedCostAtLeast styles.Rules sc old new =
     StepsCostAtLeast statuses.Rejected sc old new
 StyleRejectedCostAtLeast styles.Boosted sc old new = TakenCostAtLeast sc old new
 StyleRejectedCostAtLeast styles.Optimistic sc old new = TakenCostAtLeast sc old new
-StyleRejectedCostAtLeast styles.Hardware sc old new = Unit {0}
-StyleRejectedCostAtLeast styles.Dependent sc old new = Unit {0}
+StyleRejectedCostAtLeast styles.Hardware sc old new =
+    StepsCostAtLeast statuses.Rejected sc old new
+StyleRejectedCostAtLeast styles.Dependent sc old new =
+    StepsCostAtLeast statuses.Rejected sc old new
 
 -- P is true of the style of a header. Without a header the counter does not rise.
 abbrev pub OfItsStyle : Option (Lined Header) → (old new : ℕ) → (Style → Type 0) → Type 0

@@ -11,6 +11,7 @@ pub mod Engines
 pub mod Boosted
 pub mod Optimistic
 pub mod Rules
+pub mod Driven
 pub mod StyleJudging
 pub mod EngineLaws
 pub mod BoostedLaws

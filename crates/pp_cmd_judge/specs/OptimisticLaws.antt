@@ -166,7 +166,7 @@ optimistic_first old = (λ good none. same_count old, from old (search_most []))
 
 pub optimistic_laws : EngineLaws optimistic_engine
 optimistic_laws = record {
-  judged = refl;
+  any_steps = refl;
   style = λ h rs snapshots good. good.style;
   hold = all_meet;
   good = λ h rs judge c. c;

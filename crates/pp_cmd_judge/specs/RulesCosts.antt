@@ -1,5 +1,5 @@
--- Meaning: how far judging a run of style rules raises the counter of operations applied or taken
--- back.
+-- Meaning: how far judging a run of style rules, hardware or dependent raises the counter of
+-- operations applied or taken back.
 use Rattle.std.specs.Prelude.{◌≤◌, ◌+◌, ℕ, List, Option}
 use Rattle.pp_core.specs.Steps.{Step}
 use Rattle.pp_model.specs.Config.{Start, first}

@@ -62,7 +62,7 @@ module _ (h : Lined Header) (rs : Records (RunRecord Op)) (rejection : Rejection
 -- ---- the cost
 
 -- steps cost no more than those and others after them
-most_more : (c : Config Op) (xs ys : List (Step Op)) →
+pub most_more : (c : Config Op) (xs ys : List (Step Op)) →
     most_ticks place_of c xs ≤ most_ticks place_of c (xs ++ ys)
 most_more c xs ys = subst (λ (k : ℕ). most_ticks place_of c xs ≤ k)
     (sym (most_append place_of c xs ys)) (from (most_ticks place_of c xs) _)
@@ -111,7 +111,7 @@ nothing_all old = λ run is. still old (all_at_most None (bare run))
 
 pub rules_laws : EngineLaws rules_engine
 rules_laws = record {
-  judged = refl;
+  any_steps = refl;
   style = λ h rs engine good. good.style;
   hold = λ h rs engine good. good.hold;
   good = λ h rs judge c. c;

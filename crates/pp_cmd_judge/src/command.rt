@@ -65,8 +65,8 @@ fn report_rejected(alloc: Global, tally: &Tally, rejection: &Rejection) -> Resul
     )
 }
 
-/// The status and the report of the input of a source, for a run of any number of steps in a style
-/// that is judged.
+/// The status and the report of the input of a source, for a run of any number of steps. In styles
+/// hardware and dependent it has at most 4,294,967,295.
 pub fn judge<S: Source, L: Ledger>(
     alloc: Global,
     source: &mut S,

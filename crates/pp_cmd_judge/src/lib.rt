@@ -1,9 +1,10 @@
-//! The command `judge`: the report of `certify` for a run of any number of steps, in the styles
-//! that are judged.
+//! The command `judge`: the report of `certify` for a run of any number of steps. In styles hardware
+//! and dependent a run has at most 4,294,967,295.
 #![tactic(auto)]
 
 mod boosted;
 mod command;
+mod driven;
 mod engine;
 mod law;
 mod limits;

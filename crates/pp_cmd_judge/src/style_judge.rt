@@ -1,4 +1,4 @@
-//! The judges of all styles that are judged, as one judge.
+//! The judges of all styles, as one judge.
 ghost use Rattle.std.specs.Prelude.{◌≡◌, ◌<◌, length};
 ghost use Rattle.pp_kind.specs.Object.{AllRanged, IsAllowed};
 ghost use Rattle.pp_kind.specs.declared.range.TheConstants.{MOST_OPERATIONS};
@@ -6,6 +6,7 @@ ghost use Rattle.pp_model.specs.Sound.{serial_ops};
 ghost use Rattle.pp_objects.specs.Objects.{objects};
 ghost use Rattle.pp_cmd_judge.specs.StyleJudging.{HasTaken, done_of, shape_of, step_count};
 
+use crate::driven::DrivenMachine;
 use crate::engine::Engine;
 use crate::limits::judge_limits;
 use crate::rules::RuleMachine;
@@ -28,6 +29,7 @@ pub(crate) enum StyleJudge {
     Rules(RunJudge<RuleMachine>),
     Boosted(RunJudge<Quick<Objects>>),
     Optimistic(RunJudge<Snapshots<Objects>>),
+    Driven(DrivenMachine),
 }
 
 impl StyleJudge {
@@ -39,6 +41,7 @@ impl StyleJudge {
             StyleJudge::Rules(judge) => judge.steps,
             StyleJudge::Boosted(judge) => judge.steps,
             StyleJudge::Optimistic(judge) => judge.steps,
+            StyleJudge::Driven(judge) => u64::from(judge.machine.count()),
         }
     }
 
@@ -55,6 +58,7 @@ impl StyleJudge {
             StyleJudge::Rules(judge) => judge.engine.commits(),
             StyleJudge::Boosted(judge) => judge.engine.commits(),
             StyleJudge::Optimistic(judge) => judge.engine.commits(),
+            StyleJudge::Driven(judge) => judge.committed(),
         }
     }
 }
@@ -83,7 +87,9 @@ impl Judge for StyleJudge {
             Style::Optimistic => {
                 Ok(RunJudge::<Snapshots<Objects>>::begin(alloc, header, line, ticks)?)
             }
-            Style::Hardware | Style::Dependent => Err(Stop::Fault(line, Cause::StyleNotJudged)),
+            Style::Hardware | Style::Dependent => {
+                Ok(DrivenMachine::begin(alloc, header, line, ticks)?)
+            }
         }
     }
 
@@ -99,6 +105,7 @@ impl Judge for StyleJudge {
             StyleJudge::Rules(judge) => Ok(judge.judge(alloc, header, recorded, line, ticks)?),
             StyleJudge::Boosted(judge) => Ok(judge.judge(alloc, header, recorded, line, ticks)?),
             StyleJudge::Optimistic(judge) => Ok(judge.judge(alloc, header, recorded, line, ticks)?),
+            StyleJudge::Driven(judge) => judge.judge(header, recorded, line, ticks),
         }
     }
 
