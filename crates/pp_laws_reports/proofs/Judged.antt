@@ -1,6 +1,7 @@
 -- Every input has a report, however many steps it has, so `judge` has an output for it.
 use Rattle.std.specs.Prelude.{◌≡◌, ℕ, zero, suc, List, length, map, take, Option, None, Some}
 use Rattle.std.proofs.Common.{refl, sym, subst}
+use mathlib.Core.Logic.{inl, inr}
 use Rattle.pp_core.specs.declared.call.Kind.{Kind}
 use Rattle.pp_core.specs.declared.status.Status.{Status}
 use Rattle.pp_core.specs.declared.status.Status.TheVariants as statuses
@@ -21,14 +22,13 @@ use Rattle.pp_report.specs.Reports.{accepted_text, rejected_text}
 use Rattle.pp_machine.specs.Evidence.{evidence}
 use Rattle.pp_input_reader.specs.FaultTexts.{fault_text}
 use Rattle.pp_input_reader.specs.declared.cause.Cause.{Cause}
-use Rattle.pp_input_reader.specs.declared.cause.Cause.TheVariants.{StyleNotJudged, TooManySteps}
+use Rattle.pp_input_reader.specs.declared.cause.Cause.TheVariants.{TooManySteps}
 use Rattle.pp_judge.specs.Objects.{object_of, setting_of, start_of}
 use Rattle.pp_judge.specs.Reports.{IsTold, RunReport, detail_of_start}
 use Rattle.pp_cmd_quick.proofs.Verdicts.{some_verdict}
-use Rattle.pp_cmd_quick.specs.Decisions.{style_fault}
 use Rattle.pp_cmd_judge.proofs.Reporting.{fault_reported, run_reported}
 use Rattle.pp_cmd_judge.specs.Inputs.{judge_limits, judge_scan}
-use Rattle.pp_cmd_judge.specs.Judgements.{IsJudgeOutput, is_judged, judge_fault}
+use Rattle.pp_cmd_judge.specs.Judgements.{IsJudgeFault, IsJudgeOutput, PassesStepsOn}
 use Rattle.pp_laws_reports.proofs.Scanned.{header_of_sound, rejected_step}
 use Rattle.pp_laws_reports.specs.Defined.{IsDefined}
 
@@ -64,25 +64,23 @@ module _ (header : Lined Header) (rs : Records (RunRecord Op)) where
   some_told : Nowhere → ⊥
   some_told none = some_verdict (object_of header.what) (start_of header.what) (bare all) (no_verdict none)
 
--- an input that `judge` finds no fault in has a header
-header_of_judged : (bytes : List ℕ) → judge_fault (judge_scan bytes) ≡ None → (header : Lined Header) × ((judge_scan bytes).header ≡ Some header)
-header_of_judged bytes sound = by (judge_scan bytes).header refl
-  where
-    by : (o : Option (Lined Header)) → (judge_scan bytes).header ≡ o → (header : Lined Header) × ((judge_scan bytes).header ≡ Some header)
-    by (Some h) is = (h, is)
-    by None is = header_of_sound judge_limits bytes (subst (λ (o : Option (Lined Header)). style_fault is_judged StyleNotJudged o (judge_scan bytes).fault ≡ None) is sound)
-
 -- the records of an input have this status and text
 abbrev Told : List ℕ → Status → List ℕ → Option (Lined Header) → Type 0
 Told bytes status text o = (report : RunReport) × IsRunReport setting_of o (judge_scan bytes).records report × IsTold o report status text
 
 -- It is impossible that `judge` has no status and no text for an input.
 pub judge_is_defined : (bytes : List ℕ) → IsDefined (IsJudgeOutput bytes)
-judge_is_defined bytes none = by (judge_fault (judge_scan bytes)) refl
+judge_is_defined bytes none = within (λ line over. faulty (line, TooManySteps) (inl (line, over, refl)))
   where
-    by : (fault : Option (ℕ × Cause)) → judge_fault (judge_scan bytes) ≡ fault → ⊥
-    by (Some f) is = none statuses.InputFault (fault_text f.0 f.1) (fault_reported bytes f.0 f.1 (fault_text f.0 f.1) is refl)
-    by None is =
-        let h = header_of_judged bytes is in
-        some_told h.0 (judge_scan bytes).records (λ report status text reported printed.
-        none status text (run_reported bytes status text is (subst (Told bytes status text) (sym h.1) (report, reported, printed))))
+    faulty : (f : ℕ × Cause) → IsJudgeFault (judge_scan bytes) (Some f) → ⊥
+    faulty f is = none statuses.InputFault (fault_text f.0 f.1) (fault_reported bytes f.0 f.1 (fault_text f.0 f.1) is refl)
+
+    within : ((line : ℕ) → PassesStepsOn (judge_scan bytes).header (judge_scan bytes).records line → ⊥) → ⊥
+    within few = by (judge_scan bytes).fault refl
+      where
+        by : (fault : Option (ℕ × Cause)) → (judge_scan bytes).fault ≡ fault → ⊥
+        by (Some f) is = faulty f (inr (few, sym is))
+        by None is =
+            let h = header_of_sound judge_limits bytes is in
+            some_told h.0 (judge_scan bytes).records (λ report status text reported printed.
+            none status text (run_reported bytes status text (inr (few, sym is)) (subst (Told bytes status text) (sym h.1) (report, reported, printed))))
