@@ -54,7 +54,8 @@ module _ {A B : Type 0} (f : A → B) (n : ℕ → ℕ) (place : A → ℕ) (at 
       ap (λ (c : Config B). joined_steps (translation at style hs) (record { front = new_front hs; config = c }) (mapped_records f n rs)) (first_mapped f h)
       ∙ steps_mapped (outset (translation place style ks) h) rs refl
 
-bare_joined : {A : Type 0} (place : A → ℕ) (style : Style) (ks : List Kind) (p : Standing Front A) (rs : Records (RunRecord A)) → Each HasNoBody (bare rs) → Each StepHasNoBody (bare (joined_steps (translation place style ks) p rs))
+-- No begin among the steps of records without bodies has a body.
+pub bare_joined : {A : Type 0} (place : A → ℕ) (style : Style) (ks : List Kind) (p : Standing Front A) (rs : Records (RunRecord A)) → Each HasNoBody (bare rs) → Each StepHasNoBody (bare (joined_steps (translation place style ks) p rs))
 bare_joined place style ks p [] h = tt
 bare_joined place style ks p (r ∷ rs) h =
     let T = translation place style ks in

@@ -1,0 +1,11 @@
+pub mod OneObject
+pub mod PlacedRecords
+pub mod PartAlone
+pub mod ScannedLines
+pub mod Left
+pub mod ObjectsOf
+pub mod TextsLocal
+pub mod Idle
+pub mod Failing
+pub mod Absent
+pub mod TextsRejected

@@ -1,0 +1,2 @@
+pub mod TextsLocal
+pub mod TextsRejected
