@@ -1,5 +1,5 @@
 -- The criteria of a step of a mapped configuration are those of the configuration, if no transaction has a body.
-use Rattle.std.specs.Prelude.{◌≡◌, ◌≢◌, ◌↔◌, ◌==◌, Bool, true, false, cond, not, ℕ, zero, suc, List, [], ◌∷◌, ◌++◌, map, Option, None, Some, option_map}
+use Rattle.std.specs.Prelude.{◌≡◌, ◌≢◌, ◌↔◌, ◌==◌, Bool, true, false, cond, not, ℕ, suc, List, [], ◌∷◌, ◌++◌, map, Option, None, Some, option_map}
 use Rattle.std.proofs.Common.{refl, sym, ap, subst, ◌∙◌}
 use Rattle.std.proofs.lemmas.List.{map-append}
 use mathlib.Core.Logic.{inl, inr}
@@ -11,6 +11,7 @@ use Rattle.pp_model.specs.Names.{Name, ◌=ⁿ◌}
 use Rattle.pp_model.specs.Object.{Allowed, Item, Object, Swaps, ops}
 use Rattle.pp_model.specs.Rules.{FirstFalse, IsLast, IsVerdict, IsVerdictFrom, Verdict, criteria, start_criteria, there}
 use Rattle.pp_model.proofs.Lists.{before_from_map, before_map, from_map, in_map}
+use Rattle.pp_laws_summary.proofs.Asks.{Alike, alike as facts_alike}
 use Rattle.pp_laws_summary.proofs.Relog.{filter_map}
 use Rattle.pp_laws_mapped.specs.Mapped.{StepHasNoBody, mapped_item, mapped_start, mapped_step}
 use Rattle.pp_laws_mapped.specs.Laws.{MapsObjects}
@@ -19,27 +20,15 @@ use Rattle.pp_laws_mapped.proofs.MappedConfigs.{at_mark_mapped, config_by, first
 
 -- ---- lists of statements
 
--- each statement of the first list is true exactly if that of the second is
-abbrev pub AreAlike : List (Type 0) → List (Type 0) → Type 0
-AreAlike [] [] = Unit {0}
-AreAlike [] (q ∷ qs) = ⊥
-AreAlike (p ∷ ps) [] = ⊥
-AreAlike (p ∷ ps) (q ∷ qs) = (p ↔ q) × AreAlike ps qs
-
--- Their first false statements have one position.
-pub first_alike : (ps qs : List (Type 0)) (n : ℕ) → AreAlike ps qs → FirstFalse ps n ↔ FirstFalse qs n
-first_alike [] [] n h = ((λ k. k), (λ k. k))
-first_alike [] (q ∷ qs) n h = absurd h
-first_alike (p ∷ ps) [] n h = absurd h
-first_alike (p ∷ ps) (q ∷ qs) zero h = let more = first_alike ps qs zero h.1 in ((λ k. (h.0.0 k.0, more.0 k.1)), (λ k. (h.0.1 k.0, more.1 k.1)))
-first_alike (p ∷ ps) (q ∷ qs) (suc zero) h = ((λ k y. k (h.0.1 y)), (λ k x. k (h.0.0 x)))
-first_alike (p ∷ ps) (q ∷ qs) (suc (suc n)) h = let more = first_alike ps qs (suc n) h.1 in ((λ k. (h.0.0 k.0, more.0 k.1)), (λ k. (h.0.1 k.0, more.1 k.1)))
+-- The first false statements of alike lists have one position.
+pub first_alike : (ps qs : List (Type 0)) (n : ℕ) → Alike ps qs → FirstFalse ps n ↔ FirstFalse qs n
+first_alike ps qs n h = facts_alike ps qs h n
 
 same : {P : Type 0} → P ↔ P
 same = ((λ p. p), (λ p. p))
 
 -- Statements on a value that is there.
-there_alike : {X Y : Type 0} (g : X → Y) (o : Option X) (F : X → List (Type 0)) (G : Y → List (Type 0)) → ((x : X) → o ≡ Some x → AreAlike (F x) (G (g x))) → AreAlike (there o F) (there (option_map g o) G)
+there_alike : {X Y : Type 0} (g : X → Y) (o : Option X) (F : X → List (Type 0)) (G : Y → List (Type 0)) → ((x : X) → o ≡ Some x → Alike (F x) (G (g x))) → Alike (there o F) (there (option_map g o) G)
 there_alike g None F G h = (same, tt)
 there_alike g (Some x) F G h = (same, h x refl)
 
@@ -134,7 +123,7 @@ module _ {A B S T : Type 0} (O : Object A S) (Q : Object B T) (f : A → B) (map
   none_alike (e ∷ l) = ((λ h. absurd (cc)), (λ h. absurd (cc)))
 
   push_alike : (c : Config A) (t : Name) (x : Tx A) (e : LocalEntry A) →
-      AreAlike
+      Alike
       (((a : LocalEntry A) → Before a e x.local → a.mark ≡ Unpushed → Swaps O e.op a.op) ∷ ((u : SharedEntry A) → In u c.shared → u.committed ≡ false → u.owner ≢ t → Swaps O u.op e.op) ∷ Allowed O (shared_ops c.shared ++ e.op ∷ []) ∷ [])
       (((a : LocalEntry B) → Before a (local_by f e) (map (local_by f) x.local) → a.mark ≡ Unpushed → Swaps Q (f e.op) a.op) ∷ ((u : SharedEntry B) → In u (map (shared_by f) c.shared) → u.committed ≡ false → u.owner ≢ t → Swaps Q u.op (f e.op))
       ∷ Allowed Q (shared_ops (map (shared_by f) c.shared) ++ f e.op ∷ []) ∷ [])
@@ -144,7 +133,7 @@ module _ {A B S T : Type 0} (O : Object A S) (Q : Object B T) (f : A → B) (map
   )
 
   unpush_alike : (c : Config A) (id : ℕ) (x : Tx A) (e : LocalEntry A) →
-      AreAlike
+      Alike
       (((b : LocalEntry A) → Before e b x.local → b.mark ≡ Pushed → Swaps O b.op e.op) ∷ Allowed O (shared_ops (without_shared id c.shared)) ∷ [])
       (((b : LocalEntry B) → Before (local_by f e) b (map (local_by f) x.local) → b.mark ≡ Pushed → Swaps Q b.op (f e.op)) ∷ Allowed Q (shared_ops (without_shared id (map (shared_by f) c.shared))) ∷ [])
   unpush_alike c id x e = (
@@ -153,7 +142,7 @@ module _ {A B S T : Type 0} (O : Object A S) (Q : Object B T) (f : A → B) (map
   )
 
   pull_alike : (id : ℕ) (x : Tx A) (g : SharedEntry A) →
-      AreAlike
+      Alike
       (((e : LocalEntry A) → In e x.local → e.id ≢ id) ∷ Allowed O (local_ops x.local ++ g.op ∷ []) ∷ ((a : LocalEntry A) → In a x.local → is_own a.mark ≡ true → Swaps O a.op g.op) ∷ [])
       (((e : LocalEntry B) → In e (map (local_by f) x.local) → e.id ≢ id) ∷ Allowed Q (local_ops (map (local_by f) x.local) ++ f g.op ∷ []) ∷ ((a : LocalEntry B) → In a (map (local_by f) x.local) → is_own a.mark ≡ true → Swaps Q a.op (f g.op)) ∷ [])
   pull_alike id x g = (
@@ -173,23 +162,23 @@ module _ {A B S T : Type 0} (O : Object A S) (Q : Object B T) (f : A → B) (map
     d = config_by f c
 
     -- what is asked of the open transaction
-    of_tx : (t : Name) (F : Tx A → List (Type 0)) (G : Tx B → List (Type 0)) → ((x : Tx A) → x.body ≡ None → AreAlike (F x) (G (tx_by f x))) → AreAlike (there (tx t c.opened) F) (there (tx t d.opened) G)
+    of_tx : (t : Name) (F : Tx A → List (Type 0)) (G : Tx B → List (Type 0)) → ((x : Tx A) → x.body ≡ None → Alike (F x) (G (tx_by f x))) → Alike (there (tx t c.opened) F) (there (tx t d.opened) G)
     of_tx t F G h =
-        subst (λ (o : Option (Tx B)). AreAlike (there (tx t c.opened) F) (there o G)) (sym (tx_mapped f t c.opened))
+        subst (λ (o : Option (Tx B)). Alike (there (tx t c.opened) F) (there o G)) (sym (tx_mapped f t c.opened))
         (there_alike (tx_by f) (tx t c.opened) F G (λ x is. h x (each_found (λ (y : Tx A). y.body ≡ None) (λ y. y.name =ⁿ t) c.opened x none is)))
 
-    of_mark : (id : ℕ) (m : Mark) (x : Tx A) (F : LocalEntry A → List (Type 0)) (G : LocalEntry B → List (Type 0)) → ((e : LocalEntry A) → AreAlike (F e) (G (local_by f e))) → AreAlike (there (at_mark id m x.local) F) (there (at_mark id m (map (local_by f) x.local)) G)
+    of_mark : (id : ℕ) (m : Mark) (x : Tx A) (F : LocalEntry A → List (Type 0)) (G : LocalEntry B → List (Type 0)) → ((e : LocalEntry A) → Alike (F e) (G (local_by f e))) → Alike (there (at_mark id m x.local) F) (there (at_mark id m (map (local_by f) x.local)) G)
     of_mark id m x F G h =
-        subst (λ (o : Option (LocalEntry B)). AreAlike (there (at_mark id m x.local) F) (there o G)) (sym (at_mark_mapped f id m x.local))
+        subst (λ (o : Option (LocalEntry B)). Alike (there (at_mark id m x.local) F) (there o G)) (sym (at_mark_mapped f id m x.local))
         (there_alike (local_by f) (at_mark id m x.local) F G (λ e is. h e))
 
-    of_shared : (t : Name) (id : ℕ) (F : SharedEntry A → List (Type 0)) (G : SharedEntry B → List (Type 0)) → ((g : SharedEntry A) → AreAlike (F g) (G (shared_by f g))) → AreAlike (there (of_other t id c.shared) F) (there (of_other t id d.shared) G)
+    of_shared : (t : Name) (id : ℕ) (F : SharedEntry A → List (Type 0)) (G : SharedEntry B → List (Type 0)) → ((g : SharedEntry A) → Alike (F g) (G (shared_by f g))) → Alike (there (of_other t id c.shared) F) (there (of_other t id d.shared) G)
     of_shared t id F G h =
-        subst (λ (o : Option (SharedEntry B)). AreAlike (there (of_other t id c.shared) F) (there o G)) (sym (of_other_mapped f t id c.shared))
+        subst (λ (o : Option (SharedEntry B)). Alike (there (of_other t id c.shared) F) (there o G)) (sym (of_other_mapped f t id c.shared))
         (there_alike (shared_by f) (of_other t id c.shared) F G (λ g is. h g))
 
     -- The criteria of a step.
-    pub criteria_mapped : (s : Step A) → AreAlike (criteria O c s) (criteria Q d (mapped_step f s))
+    pub criteria_mapped : (s : Step A) → Alike (criteria O c s) (criteria Q d (mapped_step f s))
     criteria_mapped (Begin t p b) = (same, (all_mapped (tx_by f) c.opened _ _ (λ x. same), tt))
     criteria_mapped (App t id op) = of_tx t _ _ (λ x is. (same, (begins_alike x.body _ _ is, (local_more x.local op, tt))))
     criteria_mapped (Unapp t id) = of_tx t _ _ (λ x is. (subst (λ (o : Option (LocalEntry B)). IsLast id (last x.local) ↔ IsLast id o) (sym (last_mapped (local_by f) x.local)) (last_alike id (last x.local)), tt))
@@ -210,7 +199,7 @@ module _ {A B S T : Type 0} (O : Object A S) (Q : Object B T) (f : A → B) (map
     criteria_mapped (Note t) = of_tx t _ _ (λ x is. tt)
 
   -- The criteria of the start.
-  pub start_mapped : (h : Option (Start A)) → AreAlike (start_criteria O h) (start_criteria Q (mapped_start f h))
+  pub start_mapped : (h : Option (Start A)) → Alike (start_criteria O h) (start_criteria Q (mapped_start f h))
   start_mapped None = tt
   start_mapped (Some z) = (
     (

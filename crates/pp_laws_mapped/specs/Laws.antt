@@ -1,4 +1,4 @@
--- Meaning: a run without bodies has the same verdict when its operations are mapped to operations
+-- A run without bodies has the same verdict when its operations are mapped to operations
 -- that are allowed alike.
 use Rattle.std.specs.Prelude.{◌≡◌, ◌↔◌, ◌==◌, ℕ, List, map, Option, slice_get}
 use Rattle.pp_core.specs.declared.call.Kind.{Kind}

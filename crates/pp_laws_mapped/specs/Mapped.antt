@@ -1,4 +1,4 @@
--- Meaning: a run whose operations are mapped to other operations, and whose objects are numbered
+-- A run whose operations are mapped to other operations, and whose objects are numbered
 -- anew.
 use Rattle.std.specs.Prelude.{◌≡◌, ℕ, map, Option, None, Some}
 use Rattle.pp_model.specs.Config.{Step, Start, Begin, App, Unapp, Push, Unpush, Pull, Unpull, Cmt}
