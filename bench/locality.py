@@ -15,6 +15,7 @@ objects in the header; here the header is restricted too. It is tested that
 
 With `--program` it is also tested that the command `focus` of the program prints the same restrictions, line for line. Lines
 are compared as JSON values. From what it prints `focus` prints the same text. For a run with a fault it must print the fault.
+The same three tests are made again with the verdicts that `certify` of the program prints for the run and for these texts.
 
 The first run that breaks this is shown, and then the status is 1. A table has the number of runs with each verdict.
 """
@@ -138,20 +139,25 @@ def values_of(text, has_end):
     return [value_of(line) for line in (text.removesuffix("\n") if has_end else text).split("\n")]
 
 
+def printed(program, data, *words):
+    """What the program prints for these arguments, and its status."""
+    ran = subprocess.run([program, *words], input=data, capture_output=True, check=False)
+    return ran.stdout.decode(), ran.returncode
+
+
 def focused(program, data, name):
     """What the command `focus` prints for this name, and its status."""
-    ran = subprocess.run([program, "focus", name], input=data, capture_output=True, check=False)
-    return ran.stdout.decode(), ran.returncode
+    return printed(program, data, "focus", name)
 
 
 def wrong_restriction(program, data, name):
     """Why what the program prints is not the restriction, or None."""
-    printed, status = focused(program, data, name)
+    text, status = focused(program, data, name)
     if status != 0:
         return f"focus {name} ends with {status}"
-    if values_of(printed, True) != values_of(restricted(data.decode(), name), data.endswith(b"\n")):
+    if values_of(text, True) != values_of(restricted(data.decode(), name), data.endswith(b"\n")):
         return f"focus {name} prints another restriction"
-    is_kept = focused(program, printed.encode(), name) == (printed, 0)
+    is_kept = focused(program, text.encode(), name) == (text, 0)
     return None if is_kept else f"focus {name} changes the restriction"
 
 
@@ -163,6 +169,20 @@ def wrong_focus(program, data, report, status):
     return next((why for why in wrong if why is not None), None)
 
 
+def unlike(report, parts):
+    """Why restrictions with these verdicts do not make a whole with this report; None if they do."""
+    faults = [name for name, (_, status) in parts.items() if status == FAULT]
+    return f"the restriction to {faults[0]} has a fault" if faults else exception(report, parts)
+
+
+def unlike_texts(program, data, report):
+    """Why the texts of `focus`, as `certify` judges them, do not make the run; None if they do."""
+    if printed(program, data, "certify")[0] != report:
+        return "certify prints another report"
+    texts = {name: focused(program, data, name)[0].encode() for name in names_of(data.decode())}
+    return unlike(report, {name: printed(program, text, "certify") for name, text in texts.items()})
+
+
 def examined(file, program):
     """The verdict of a file's run, and why its restrictions do not make it."""
     data = file.read_bytes()
@@ -171,9 +191,10 @@ def examined(file, program):
     if why is not None or status == FAULT:
         return "fault", why
     text = data.decode()
-    parts = {name: verdict(restricted(text, name).encode(), NO_LIMITS) for name in names_of(text)}
-    faults = [name for name, (_, status) in parts.items() if status == FAULT]
-    return verdict_named(report), f"the restriction to {faults[0]} has a fault" if faults else exception(report, parts)
+    why = unlike(report, {name: verdict(restricted(text, name).encode(), NO_LIMITS) for name in names_of(text)})
+    if why is None and program:
+        why = unlike_texts(program, data, report)
+    return verdict_named(report), why
 
 
 def main():
