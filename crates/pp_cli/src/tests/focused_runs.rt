@@ -17,7 +17,7 @@ const COUNTER_AND_SET: &[u8] =
     br#"{"run":1,"style":"boosted","objects":[{"name":"c","kind":"counter"},{"name":"s","kind":"set"}]}
 "#;
 
-const FOCUSED: [FocusedRow; 7] = [
+const FOCUSED: [FocusedRow; 9] = [
     FocusedRow {
         name: b"c",
         row: Row {
@@ -99,6 +99,38 @@ const FOCUSED: [FocusedRow; 7] = [
 
 {"step":"commit","tx":"t9"}
 "#,
+        },
+    },
+    FocusedRow {
+        name: b"c",
+        row: Row {
+            what: "one byte 13 at the end of a line leaves, and two stay",
+            header: COUNTER_AND_SET,
+            records: b"{\"step\":\"begin\",\"tx\":\"t1\",\"thread\":\"p1\"}\r\r\n\
+\r\n\
+{\"step\":\"op\",\"tx\":\"t1\",\"id\":1,\"on\":\"s\",\"call\":\"add\",\"args\":[5],\"result\":true}\r\r\n\
+{\"step\":\"op\",\"tx\":\"t1\",\"id\":2,\"on\":\"c\",\"call\":\"add\",\"args\":[2],\"result\":null}\r\n\
+{\"step\":\"op\",\"tx\":\"t1\",\"id\":3,\"on\":\"c\",\"call\":\"add\",\"args\":[2],\"result\":null}\r\r\n\
+{\"step\":\"commit\",\"tx\":\"t1\"}\r\r\n",
+            status: Status::Accepted,
+            report: b"{\"objects\":[{\"kind\":\"counter\",\"name\":\"c\"}],\"run\":1,\"style\":\"boosted\"}\n\
+{\"step\":\"begin\",\"thread\":\"p1\",\"tx\":\"t1\"}\n\
+\n\
+\n\
+{\"step\":\"op\",\"tx\":\"t1\",\"id\":2,\"on\":\"c\",\"call\":\"add\",\"args\":[2],\"result\":null}\n\
+{\"step\":\"op\",\"tx\":\"t1\",\"id\":3,\"on\":\"c\",\"call\":\"add\",\"args\":[2],\"result\":null}\r\r\n\
+{\"step\":\"commit\",\"tx\":\"t1\"}\r\r\n",
+        },
+    },
+    FocusedRow {
+        name: b"s",
+        row: Row {
+            what: "a header that ends in bytes 13, and a last line without an end",
+            header: b"{\"run\":1,\"style\":\"boosted\",\"objects\":[{\"name\":\"s\",\"kind\":\"set\"}]}\r\r\n",
+            records: b"{\"step\":\"commit\",\"tx\":\"t9\"}\r\r",
+            status: Status::Accepted,
+            report: b"{\"objects\":[{\"kind\":\"set\",\"name\":\"s\"}],\"run\":1,\"style\":\"boosted\"}\n\
+{\"step\":\"commit\",\"tx\":\"t9\"}\r\r\n",
         },
     },
     FocusedRow {
