@@ -30,6 +30,8 @@ use Rattle.pp_laws_summary.specs.LocalLogs.{HasSummary}
 use Rattle.pp_laws_summary.proofs.Placed.{parts_of}
 use Rattle.pp_laws_locality.specs.Locality.{IsLocal}
 use Rattle.pp_laws_locality.proofs.RunFailures.{locals}
+use Rattle.pp_laws_focus.proofs.TextsLocal.{texts_are_local}
+use Rattle.pp_laws_focus.proofs.TextsRejected.{texts_reject}
 use Rattle.pp_laws_runs.proofs.Prefixes.{certified_prefix_law, prefix_law}
 use Rattle.pp_laws_runs.proofs.Reported.{reported_law}
 use Rattle.pp_laws_runs.specs.Prefixes.{CertifiedPrefixLaw, PrefixLaw}
@@ -141,5 +143,6 @@ run_laws =
       local = runs_local;
       read_again = lines_read_again;
       text_read_again = text_read_again;
+      texts_decide = (texts_are_local, texts_reject);
       styles_fail_only = reported_law;
     }

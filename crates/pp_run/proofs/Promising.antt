@@ -175,11 +175,11 @@ promised (Some Judge) o a =
     record {
       prints = λ p bytes is. record { output = a.output p bytes is; only = a.only p bytes is };
       exact = λ p bytes is. let out = a.output p bytes is in judged_exact bytes o.status out.0 out.1;
-      same = λ p bytes is styled few.
+      same = λ p bytes is few.
           let out = a.output p bytes is in
           record {
-            output = (out.0, (same_judged bytes o.status out.0 styled few).0 out.1, out.2);
-            only = λ other text certified. a.only p bytes is other text ((same_judged bytes other text styled few).1 certified);
+            output = (out.0, (same_judged bytes o.status out.0 few).0 out.1, out.2);
+            only = λ other text certified. a.only p bytes is other text ((same_judged bytes other text few).1 certified);
           };
       accepted = λ e bytes is.
           let out = a.output (printed o statuses.Accepted e tt) bytes is in

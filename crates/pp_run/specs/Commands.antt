@@ -20,7 +20,7 @@ use Rattle.pp_cmd_quick.specs.Costs.{QuickCostsAtLeast, QuickCostsAtMost}
 use Rattle.pp_cmd_quick.specs.Decisions.{IsQuick}
 use Rattle.pp_cmd_judge.specs.Costs.{JudgeCostsAtLeast, JudgeCostsAtMost}
 use Rattle.pp_cmd_judge.specs.Inputs.{judge_scan}
-use Rattle.pp_cmd_judge.specs.Judgements.{HasJudgedStyle, IsJudgeOutput, IsJudgedEvident}
+use Rattle.pp_cmd_judge.specs.Judgements.{IsJudgeOutput, IsJudgedEvident}
 use Rattle.pp_cmd_judge.specs.Judgements.{IsJudgedExactly}
 use Rattle.pp_cmd_judge.specs.Laws.{IsWithinCertify}
 use Rattle.pp_cmd_drill.specs.Prints.{PrintsLines}
@@ -85,18 +85,18 @@ pub record ExpandPromise (o : Outcome) : Type 0 where
   pub least : IsDecided o.status → OfItsInput o λ bytes.
       StepsCostAtLeast o.status (scan bytes) o.before o.after
 
--- What `judge` promises. It is `certify` without a limit on steps, transactions and bytes, for the
--- styles that it judges. `judge_scan` is what an input is within its limits.
+-- What `judge` promises. It is `certify` without a limit on transactions and bytes. In styles
+-- hardware and dependent a run has at most 4,294,967,295 steps, and in the others any number.
+-- `judge_scan` is what an input is within its limits.
 pub record JudgePromise (o : Outcome) : Type 0 where
   pub prints : PrintsJust IsJudgeOutput o
   -- Accepted is printed exactly if the input has no fault, and its start and each step meet their
   -- criteria.
   pub exact : IsPrinted o.status → OfItsInput o λ bytes. IsJudgedExactly bytes o.status
-  -- If the style is judged, and `certify` reports none of TooManySteps, TooManyTransactions,
-  -- TooManyLines and TooLong, then the status and the text are the only output of `certify` for the
-  -- input.
-  pub same : IsPrinted o.status → OfItsInput o λ bytes. HasJudgedStyle (scan bytes).header →
-      IsWithinCertify (scan bytes) → IsTheOutput IsCertified bytes o
+  -- If `certify` reports none of TooManySteps, TooManyTransactions, TooManyLines and TooLong, then
+  -- the status and the text are the only output of `certify` for the input.
+  pub same : IsPrinted o.status → OfItsInput o λ bytes. IsWithinCertify (scan bytes) →
+      IsTheOutput IsCertified bytes o
   -- An accepted run is serializable, also if it has too many steps for `certify`.
   pub accepted : o.status ≡ statuses.Accepted → OfItsInput o λ bytes.
       IsSerializable (judge_scan bytes)

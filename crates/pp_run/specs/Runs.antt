@@ -8,6 +8,8 @@ use Rattle.pp_judge.specs.Objects.{object_of}
 use Rattle.pp_laws_summary.specs.LocalLogs.{HasSummary}
 use Rattle.pp_laws_locality.specs.Locality.{IsLocal}
 use Rattle.pp_cmd_focus.specs.Again.{LinesReadAgain, TextReadAgain}
+use Rattle.pp_laws_focus.specs.TextsLocal.{TextsAreLocal}
+use Rattle.pp_laws_focus.specs.TextsRejected.{TextsReject}
 use Rattle.pp_laws_runs.specs.Prefixes.{CertifiedPrefixLaw, PrefixLaw}
 use Rattle.pp_laws_reports.specs.Readable.{CertifyLaw, QuickLaw, ReportLaw}
 use Rattle.pp_run.specs.declared.words.Command.{Command}
@@ -56,6 +58,11 @@ pub record RunLaws : Type 0 where
   -- So what `focus` prints of an input without a fault is an input without a fault, of the same
   -- style and with as many lines. What is left of a record is on the line that the record had.
   pub text_read_again : TextReadAgain
+  -- A boosted, optimistic or hardware input without a fault is right exactly if its bookkeeping is
+  -- right and what `focus` prints for each name of its header is right. If it is rejected at a
+  -- step, the criterion is one of bookkeeping, or one of these texts is rejected on the same line,
+  -- at the same step and by the same criterion. None is rejected at an earlier record.
+  pub texts_decide : TextsAreLocal × TextsReject
   -- In the four recorded styles only the criteria that `breakable` lists can be the first violated.
   -- This holds under `certify` and under `judge`, however many steps come before.
   pub styles_fail_only : ReportedLaw

@@ -14,7 +14,7 @@ pub(crate) enum Command {
     Certify,
     /// Print the steps that the records of the input mean.
     Expand,
-    /// Report what `certify` reports, without a limit on steps, for the styles that `judge` takes.
+    /// Report what `certify` reports, within wider limits.
     Judge,
     /// Report whether the input is a boosted run of the machine, without local logs.
     Quick,

@@ -262,13 +262,21 @@ pub(crate) const COMMANDS: [CommandRow; 20] = [
     CommandRow {
         command: b"judge",
         row: Row {
-            what: "a run of style dependent",
+            what: "a read of what a source published, which commits first",
             header: b"",
-            records: br#"{"run":1,"style":"dependent","objects":[{"name":"c","kind":"counter"}]}
+            records: br#"{"run":1,"style":"dependent","objects":[{"name":"m","kind":"mem"}]}
 {"step":"begin","tx":"t1","thread":"p1"}
+{"step":"op","tx":"t1","id":1,"on":"m","call":"write","args":[0,5],"result":null}
+{"step":"publish","tx":"t1"}
+{"step":"begin","tx":"t2","thread":"p2"}
+{"step":"depend","tx":"t2","source":"t1"}
+{"step":"op","tx":"t2","id":2,"on":"m","call":"read","args":[0],"result":5}
+{"step":"op","tx":"t2","id":3,"on":"m","call":"write","args":[1,6],"result":null}
+{"step":"commit","tx":"t1"}
+{"step":"commit","tx":"t2"}
 "#,
-            status: Status::InputFault,
-            report: b"fault line 1 StyleNotJudged\n",
+            status: Status::Accepted,
+            report: b"accepted steps 13 committed 2\ntx t1\nop 1 m.write(0,5)=none\ntx t2\nop 2 m.read(0)=5\nop 3 m.write(1,6)=none\nstate m 0=5 1=6\n",
         },
     },
     CommandRow {
