@@ -23,7 +23,7 @@ mod styled_runs;
 mod walks;
 
 use crate::tests::accepted_runs::ACCEPTED;
-use crate::tests::commands::{COMMANDS, OPAQUE};
+use crate::tests::commands::{COMMANDS, DRIVEN, OPAQUE};
 use crate::tests::expanded_runs::{EXPANDED, OLD_READ};
 use crate::tests::faulty_inputs::FAULTY;
 use crate::tests::given_words::GivenWords;
@@ -167,6 +167,17 @@ fn runs_have_their_reports(rt: HostRuntime) -> Result<(), Fail> {
 fn commands_have_their_outputs(rt: HostRuntime) -> Result<(), Fail> {
     let alloc = rt.alloc();
     for command in &COMMANDS {
+        let row = &command.row;
+        let answer = answered_bytes(alloc, command.command, input_of(alloc, row)?, true)?;
+        assert_answer(&rt, row.what, &answer, row.status, row.report);
+    }
+    Ok(())
+}
+
+#[test]
+fn driven_runs_have_their_reports(rt: HostRuntime) -> Result<(), Fail> {
+    let alloc = rt.alloc();
+    for command in &DRIVEN {
         let row = &command.row;
         let answer = answered_bytes(alloc, command.command, input_of(alloc, row)?, true)?;
         assert_answer(&rt, row.what, &answer, row.status, row.report);

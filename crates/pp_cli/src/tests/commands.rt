@@ -8,7 +8,7 @@ pub(crate) struct CommandRow {
     pub(crate) row: Row,
 }
 
-pub(crate) const COMMANDS: [CommandRow; 20] = [
+pub(crate) const COMMANDS: [CommandRow; 19] = [
     CommandRow {
         command: b"swaps",
         row: Row {
@@ -262,26 +262,6 @@ pub(crate) const COMMANDS: [CommandRow; 20] = [
     CommandRow {
         command: b"judge",
         row: Row {
-            what: "a read of what a source published, which commits first",
-            header: b"",
-            records: br#"{"run":1,"style":"dependent","objects":[{"name":"m","kind":"mem"}]}
-{"step":"begin","tx":"t1","thread":"p1"}
-{"step":"op","tx":"t1","id":1,"on":"m","call":"write","args":[0,5],"result":null}
-{"step":"publish","tx":"t1"}
-{"step":"begin","tx":"t2","thread":"p2"}
-{"step":"depend","tx":"t2","source":"t1"}
-{"step":"op","tx":"t2","id":2,"on":"m","call":"read","args":[0],"result":5}
-{"step":"op","tx":"t2","id":3,"on":"m","call":"write","args":[1,6],"result":null}
-{"step":"commit","tx":"t1"}
-{"step":"commit","tx":"t2"}
-"#,
-            status: Status::Accepted,
-            report: b"accepted steps 13 committed 2\ntx t1\nop 1 m.write(0,5)=none\ntx t2\nop 2 m.read(0)=5\nop 3 m.write(1,6)=none\nstate m 0=5 1=6\n",
-        },
-    },
-    CommandRow {
-        command: b"judge",
-        row: Row {
             what: "a start that adds one key twice",
             header: b"",
             records: br#"{"run":2,"style":"boosted","objects":[{"name":"s","kind":"set"}],"start":{"tx":"t0","ops":[{"id":1,"on":"s","call":"add","args":[5],"result":true},{"id":2,"on":"s","call":"add","args":[5],"result":true}]}}
@@ -363,6 +343,28 @@ pub(crate) const COMMANDS: [CommandRow; 20] = [
         },
     },
 ];
+
+/// Outputs of `judge` for a style whose steps the machine does.
+pub(crate) const DRIVEN: [CommandRow; 1] = [CommandRow {
+    command: b"judge",
+    row: Row {
+        what: "a read of what a source published, which commits first",
+        header: b"",
+        records: br#"{"run":1,"style":"dependent","objects":[{"name":"m","kind":"mem"}]}
+{"step":"begin","tx":"t1","thread":"p1"}
+{"step":"op","tx":"t1","id":1,"on":"m","call":"write","args":[0,5],"result":null}
+{"step":"publish","tx":"t1"}
+{"step":"begin","tx":"t2","thread":"p2"}
+{"step":"depend","tx":"t2","source":"t1"}
+{"step":"op","tx":"t2","id":2,"on":"m","call":"read","args":[0],"result":5}
+{"step":"op","tx":"t2","id":3,"on":"m","call":"write","args":[1,6],"result":null}
+{"step":"commit","tx":"t1"}
+{"step":"commit","tx":"t2"}
+"#,
+        status: Status::Accepted,
+        report: b"accepted steps 13 committed 2\ntx t1\nop 1 m.write(0,5)=none\ntx t2\nop 2 m.read(0)=5\nop 3 m.write(1,6)=none\nstate m 0=5 1=6\n",
+    },
+}];
 
 /// Runs with what `opaque` prints.
 pub(crate) const OPAQUE: [CommandRow; 3] = [
