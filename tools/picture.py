@@ -92,6 +92,8 @@ def failure(run, why, marks):
     shown = {"line": report.line, "mark": marks.mark_of_line.get(report.line, -1), "criterion": "", "gives": "",
              "call": -1, "entry": -1, "recorded": -1, "right": -1, "words": why.words,
              "rows": [{"text": line, "mark": -1} for line in why.lines]}
+    if case is None:
+        return shown
     shown.update(call=marks.of_call(case.call), entry=marks.of_call(case.entry),
                  recorded=marks.of_call(explained.recorded_by), right=marks.of_call(explained.right_by))
     shown["criterion"] = " ".join(map(str, case.criterion))

@@ -147,8 +147,10 @@ class PageText(unittest.TestCase):
         page = page_of(run_bytes("optimistic", "c:counter", records))
         self.assertIn('<h1 id="verdict">accepted steps 213525 committed 650</h1>', page)
         page = page_of(run_bytes("hardware", "c:counter", records))
-        self.assertRegex(page, r'<header class="fault">\s*<span[^>]*></span>\s*<h1 id="verdict">fault line \d+ TooManySteps</h1>')
-        self.assertIn("TooManySteps", data_in(page)["words"][0])
+        self.assertIn('<h1 id="verdict">accepted steps 213525 committed 650</h1>', page)
+        page = page_of(run_bytes("hardware", "c:counter", [*records, "begin last p1", "op last 650 c.get()=3"]))
+        self.assertIn('<h1 id="verdict">rejected step 214177 line 1953 APP 4</h1>', page)
+        self.assertIn("too many to explain", data_in(page)["failure"]["rows"][-1]["text"])
 
     def test_header_alone(self):
         self.assertEqual(data_in(page_of(run_bytes("boosted", "m:map", [])))["marks"]["line"], [])

@@ -63,7 +63,7 @@ class Asking(unittest.TestCase):
             fault = f"3 fault line 7 {cause}"
             for judged in (accepted, rejected, "3 fault line 9 NotJson"):
                 self.assertEqual(self.decided(fault, judged), (judged[2:], True))
-            for judged in ("3 fault line 1 StyleNotJudged", "3 fault line 9 NoHeader", fault):
+            for judged in ("3 fault line 9 NoHeader", fault):
                 self.assertEqual(self.decided(fault, judged), (fault[2:], False))
         for certified in (accepted, rejected, "3 fault line 7 NotJson"):
             self.assertEqual(self.decided(certified, "6 none"), (certified[2:], False))

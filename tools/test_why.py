@@ -10,7 +10,7 @@ from random_runs import random_run
 from recorded_run import STYLES
 from rule_words import CRITERIA, FAULTS, fault_words
 from sequential import new_place
-from why import JUDGED, why
+from why import JUDGED, TOO_LONG, why
 
 # The transactions that `why` names for each rejected example.
 GUILTY = {
@@ -323,10 +323,12 @@ class LongRuns(unittest.TestCase):
         self.assertEqual(found.report.verdict_line, "fault line 2104 Missing(step)")
         self.assertEqual(found.lines, [JUDGED, "line 2104 is {}"])
 
-    def test_other_style(self):
+    def test_rejected_in_a_style_without_a_replay(self):
+        """The rule and the line are named. The steps are too many to explain more."""
         found = why(PROGRAM, self.run_of("counter", 700, "o.get()=1", style="hardware"))
-        self.assertEqual(found.report.cause, "TooManySteps")
-        self.assertIn("cut the run where no transaction is open", found.lines[0])
+        self.assertEqual((found.report.verdict, found.report.is_of_judge, found.case), ("rejected", True, None))
+        self.assertIn("REJECTED at line", found.words)
+        self.assertEqual((found.lines[0], found.lines[-1]), (JUDGED, TOO_LONG))
 
 
 @needs_program

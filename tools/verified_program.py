@@ -55,8 +55,8 @@ VERDICT_LINES = (
 )
 # The faults of `certify` by limits that `judge` does not have, or has only for a larger run.
 LIMITS_OF_CERTIFY = ("TooManySteps", "TooManyLines", "TooManyTransactions", "TooLong")
-# The faults of `judge` on an input that is no run of a style that it judges.
-NO_JUDGED_RUN = ("StyleNotJudged", "NoHeader")
+# The faults of `judge` on an input that is no run.
+NO_JUDGED_RUN = ("NoHeader",)
 # The status that the program ends with, by its verdict.
 STATUSES = {"accepted": (0,), "rejected": (1,), "opaque": (0,), "zombie": (1,), "fault": (3,), "holds": (0,), "refused": (1,),
             "toolarge": (7,)}
@@ -168,8 +168,7 @@ def read_report(answer):
 
 
 def decide(program, data):
-    """The report of `certify` on a run, given as bytes. If the run is too large for it, and `judge` judges its style, that of `judge`.
-    """
+    """The report of `certify` on a run, given as bytes. If the run is too large for it, that of `judge`."""
     report = read_report(ask(program, ["certify"], data))
     if report.cause not in LIMITS_OF_CERTIFY:
         return report

@@ -23,6 +23,7 @@ REPLAYS = {"boosted": boosted_replay.rejected_step, "optimistic": optimistic_rep
 # The criteria whose timeline shows all calls, since no place is at fault.
 WHOLE_CRITERIA = (("APP", 3), ("CMT", 2))
 SHOWN_OF_A_LINE = 160
+TOO_LONG = "the steps of this run are too many to explain: cut the run where no transaction is open, or keep one object by `focus`"
 JUDGED = "this is the report of `judge`, since the run is too large for `certify`"
 
 
@@ -68,9 +69,7 @@ def explain_fault(data, report):
     words = f"FAULT on line {report.line}, {report.cause}: {fault_words(report.cause)}"
     if report.cause == "TooManySteps":
         return Why(report, words, ["cut the run where no transaction is open, and give what is there as a start"])
-    line, lines = line_of(data, report.line), []
-    if line:
-        lines.append(f"line {report.line} is {shown_line(line)}")
+    line, lines = line_of(data, report.line), shown_lines(data, report.line)
     if report.cause == "Missing(run)" and b'"certificate"' in line:
         lines.append("a certificate is read by `pozhiqas recheck`")
     return Why(report, words, lines)
@@ -87,6 +86,12 @@ def line_of(data, number):
     return data[start:end if end >= 0 else None]
 
 
+def shown_lines(data, number):
+    """What says which line this is, unless it is empty."""
+    line = line_of(data, number)
+    return [f"line {number} is {shown_line(line)}"] if line else []
+
+
 def shown_line(line):
     """A line as text, without bytes that a terminal takes for orders, and cut if it is long."""
     text = line[:SHOWN_OF_A_LINE].decode("utf-8", "replace")
@@ -100,6 +105,8 @@ def explain_rejection(program, data, report):
         step, logs = None, Logs(run, first_calls(run))
     elif report.is_of_judge and run.style in REPLAYS:
         step, logs = REPLAYS[run.style](run, report)
+    elif report.is_of_judge and run.style != "rules":
+        return Why(report, rejection_text(report.line, report.rule, report.criterion), [*shown_lines(data, report.line), TOO_LONG])
     else:
         *before, step = steps_of(program, data, run, report)
         logs = logs_before(run, first_calls(run), before)
@@ -122,8 +129,11 @@ def explain_case(case):
 
 def criterion_text(case):
     """What the program says that the step breaks, in words."""
-    rule, criterion = case.criterion
-    return f"REJECTED at line {case.line}, {rule} {criterion}: {criterion_words(rule, criterion)}"
+    return rejection_text(case.line, *case.criterion)
+
+
+def rejection_text(line, rule, criterion):
+    return f"REJECTED at line {line}, {rule} {criterion}: {criterion_words(rule, criterion)}"
 
 
 def explain(case):
