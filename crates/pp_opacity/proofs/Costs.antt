@@ -15,11 +15,11 @@ use Rattle.pp_laws_opacity.specs.Questions.{Question, question, questions, quest
 use Rattle.pp_laws_opacity.proofs.Questions.{least_is}
 use Rattle.pp_opacity.specs.Attempts.{OpenAttempt, least_in, own_in}
 use Rattle.pp_opacity.specs.Costs.{asking_at_most, operations_of, searching_at_most}
-use Rattle.pp_opacity.specs.Replays.{Follows, step_costs}
+use Rattle.pp_opacity.specs.Replays.{AskingCostsAtMost, Follows, step_costs}
 use Rattle.pp_opacity.specs.Results.{IsRun}
-use Rattle.pp_opacity.specs.Trials.{Serial}
 use Rattle.pp_opacity.proofs.Replays.{began_after_app, count_step, low_within}
 use Rattle.pp_opacity.proofs.Serials.{serial_shorter}
+use Rattle.pp_opacity.proofs.Windows.{fewer_products, one_more}
 
 -- a product of a sum
 sum_times : (a b w : ℕ) → (a + b) * w ≡ a * w + b * w
@@ -74,10 +74,10 @@ module _ {Shape State Op Undo : Type 0} (o : Object Shape State Op Undo) (shape 
   attempts_grow = let step = count_step o shape h past rest s committed r in omega (arith, step)
 
   -- The transaction that a step commits costs its operations.
-  pub cmt_costs : (serial : Serial State Undo) (kept : List (Name × OpenAttempt Op)) → Follows o shape h past committed serial kept
+  pub cmt_costs : (n : ℕ) (kept : List (Name × OpenAttempt Op)) → Follows o shape h past committed n kept
       → length (attempts h past) + 1 ≤ length (attempts h (past ++ s ∷ [])) → (t u : ℕ)
-      → u + operations_of committed serial.count ≤ t + operations_of committed (serial.count + 1) → u ≤ t + step_costs h past s committed
-  cmt_costs serial kept f more t u cost =
+      → u + operations_of committed n ≤ t + operations_of committed (n + 1) → u ≤ t + step_costs h past s committed
+  cmt_costs n kept f more t u cost =
       let same = ap (λ (k : ℕ). operations_of committed k) f.count in
       let next = ap (λ (k : ℕ). operations_of committed (k + 1)) f.count in
       let longer = serial_shorter committed (length (attempts h past) + 1) (length (attempts h (past ++ s ∷ []))) more in
@@ -85,19 +85,19 @@ module _ {Shape State Op Undo : Type 0} (o : Object Shape State Op Undo) (shape 
 
 -- The question of an APP costs as much as is said of it.
 pub app_costs : {Shape State Op Undo : Type 0} (o : Object Shape State Op Undo) (shape : Shape) (h : Option (Start Op)) (past rest : List (Step Op)) (u : Name) (id : ℕ) (op : Op)
-    (committed : List (CommittedTx Op)) (serial : Serial State Undo) (kept : List (Name × OpenAttempt Op)) (r : IsRun o shape h (past ++ App u id op ∷ rest) committed)
-    (f : Follows o shape h (past ++ App u id op ∷ []) committed serial kept) (t t2 : ℕ)
+    (committed : List (CommittedTx Op)) (n : ℕ) (kept : List (Name × OpenAttempt Op)) (r : IsRun o shape h (past ++ App u id op ∷ rest) committed)
+    (f : Follows o shape h (past ++ App u id op ∷ []) committed n kept) (t t2 : ℕ)
     → t2 + 2 * operations_of committed (least_in u kept) + 2 * (least_in u kept * length (own_in u kept))
-    ≤ t + 2 * operations_of committed serial.count + 2 * ((serial.count + 1) * length (own_in u kept))
+    ≤ t + 2 * operations_of committed n + 2 * ((n + 1) * length (own_in u kept))
     → t2 ≤ t + step_costs h past (App u id op) committed
-app_costs {Shape} {State} {Op} o shape h past rest u id op committed serial kept r f t t2 cost =
+app_costs {Shape} {State} {Op} o shape h past rest u id op committed n kept r f t t2 cost =
     let now : List (Step Op) = past ++ App u id op ∷ [] in
     let q : Question Op = question h u now in
-    let began = began_after_app o shape h past rest u id op committed serial kept r f in
+    let began = began_after_app o shape h past rest u id op committed n kept r f in
     let low : least_in u kept ≡ q.least = f.least u began.0 began.1 ∙ sym (least_is h u now began.0 began.1) in
     let size : length (own_in u kept) ≡ length q.items = ap (λ (w : List (Item Op)). length w) (f.own u) in
-    let high : serial.count ≡ q.most = f.count in
-    let within : q.least ≤ q.most = let first = low_within o shape h past rest u id op committed serial kept r f in omega (arith, low, high, first) in
+    let high : n ≡ q.most = f.count in
+    let within : q.least ≤ q.most = let first = low_within o shape h past rest u id op committed n kept r f in omega (arith, low, high, first) in
     let lows = ap (λ (k : ℕ). operations_of committed k) low in
     let highs = ap (λ (k : ℕ). operations_of committed k) high in
     let first = ap (λ (k : ℕ). k * length (own_in u kept)) low ∙ ap (λ (k : ℕ). q.least * k) size in
@@ -120,3 +120,11 @@ next_within o shape h past rest s committed r first t u so more =
     let step = spent_step h committed past s (attempts_grow o shape h past rest s committed r) in
     let within = spent_within h committed (past ++ s ∷ []) (past ++ s ∷ rest) (rest, sym (append_assoc past (s ∷ []) rest)) in
     (omega (arith, so, more, step), omega (arith, so, more, step, within))
+
+-- A question at one number costs no more than at all in the window.
+pub asked_here : {Op : Type 0} (D : List (CommittedTx Op)) (u : Name) (kept : List (Name × OpenAttempt Op)) (n t t2 : ℕ) → least_in u kept ≤ n → t2 ≤ t + 2 * length (own_in u kept) → AskingCostsAtMost D u kept n t t2
+asked_here D u kept n t t2 low cost =
+    let w = length (own_in u kept) in
+    let part = serial_shorter D (least_in u kept) n low in
+    let products = fewer_products (least_in u kept) n w low in
+    omega (arith, cost, part, products, one_more n w)

@@ -30,9 +30,9 @@ use Rattle.pp_laws_opacity.proofs.Prefixes.{began_new, began_one, began_some, em
 use Rattle.pp_laws_opacity.proofs.Questions.{began_before}
 use Rattle.pp_laws_opacity.proofs.Runs.{attempts_step, fewer_before, front, meets_at, own_undone, traced_at}
 use Rattle.pp_opacity.specs.Attempts.{Excluded, OpenAttempt, excluded_in, excludes_none, least_in, own_in}
-use Rattle.pp_opacity.specs.Replays.{Follows, MayAskOf}
+use Rattle.pp_opacity.specs.Replays.{Follows, applied_in}
 use Rattle.pp_opacity.specs.Results.{IsRun}
-use Rattle.pp_opacity.specs.Trials.{AreExcluded, IsAt, IsExplained, IsSerial, Serial}
+use Rattle.pp_opacity.specs.Trials.{AreExcluded, IsExplained, IsSerial}
 use Rattle.pp_opacity.proofs.Windows.{excluded_longer, excluded_same, none_excluded}
 
 -- a step that is no BEGIN or UNAPP of t begins no attempt of t
@@ -121,14 +121,12 @@ module _ {Shape State Op Undo : Type 0} (o : Object Shape State Op Undo) (shape 
       omega (arith, all, fewer)
 
   -- what is kept follows one more step
-  follows_next : (serial new : Serial State Undo) (kept more : List (Name × OpenAttempt Op)) → Follows o shape h past committed serial kept
-      → IsAt o shape committed new → new.count ≡ serial.count + length (commits (s ∷ []))
+  follows_next : (n m : ℕ) (kept more : List (Name × OpenAttempt Op)) → Follows o shape h past committed n kept → m ≡ n + length (commits (s ∷ []))
       → ((t : Name) → own_in t more ≡ own_after t s (own_in t kept))
       → ((t : Name) (early : List (Step Op)) → Began t early (past ++ s ∷ []) → least_in t more ≡ length (attempts h early))
       → ((t : Name) → AreExcluded (rules_of o shape) committed (own_in t more) (excluded_in t more))
-      → Follows o shape h (past ++ s ∷ []) committed new more
-  follows_next serial new kept more f at count own least excluded = record {
-    at = at;
+      → Follows o shape h (past ++ s ∷ []) committed m more
+  follows_next n m kept more f count own least excluded = record {
     count = count ∙ ap (λ (n : ℕ). n + length (commits (s ∷ []))) f.count ∙ sym count_step;
     own = λ t. own t ∙ ap (λ (w : List (Item Op)). own_after t s w) (f.own t) ∙ sym (grows t);
     least = least;
@@ -136,12 +134,12 @@ module _ {Shape State Op Undo : Type 0} (o : Object Shape State Op Undo) (shape 
   }
 
   -- It follows a step that begins no attempt and changes no own list.
-  pub follows_quiet : (serial new : Serial State Undo) (kept : List (Name × OpenAttempt Op)) → Follows o shape h past committed serial kept
+  pub follows_quiet : (n m : ℕ) (kept : List (Name × OpenAttempt Op)) → Follows o shape h past committed n kept
       → ((t : Name) → MayStart t s → ⊥) → ((t : Name) (l : List (Item Op)) → own_after t s l ≡ l)
-      → IsAt o shape committed new → new.count ≡ serial.count + length (commits (s ∷ []))
-      → Follows o shape h (past ++ s ∷ []) committed new kept
-  follows_quiet serial new kept f still same at count =
-      follows_next serial new kept kept f at count (λ t. sym (same t (own_in t kept)))
+      → m ≡ n + length (commits (s ∷ []))
+      → Follows o shape h (past ++ s ∷ []) committed m kept
+  follows_quiet n m kept f still same count =
+      follows_next n m kept kept f count (λ t. sym (same t (own_in t kept)))
       (λ t early b. f.least t early (quiet_began t early past s b (still t))) f.excluded
 
   -- a transaction that begins an attempt now began it with all steps so far
@@ -149,7 +147,7 @@ module _ {Shape State Op Undo : Type 0} (o : Object Shape State Op Undo) (shape 
   now_began t early b k = began_one t (past ++ s ∷ []) (past ++ s ∷ []) early (began_new t (past ++ s ∷ []) k) b
 
 module _ {Shape State Op Undo : Type 0} (o : Object Shape State Op Undo) (shape : Shape) (h : Option (Start Op)) (past rest : List (Step Op))
-    (committed : List (CommittedTx Op)) (serial : Serial State Undo) (kept more : List (Name × OpenAttempt Op)) (f : Follows o shape h past committed serial kept) where
+    (committed : List (CommittedTx Op)) (n : ℕ) (kept more : List (Name × OpenAttempt Op)) (f : Follows o shape h past committed n kept) where
   -- the numbers that are excluded of t, after a step of u that excludes none of u
   excluded_anew : (u t : Name) → excluded_in t more ≡ cond (u =ⁿ t) excludes_none (excluded_in t kept) → ((u =ⁿ t) ≡ false → own_in t more ≡ own_in t kept)
       → AreExcluded (rules_of o shape) committed (own_in t more) (excluded_in t more)
@@ -164,11 +162,11 @@ module _ {Shape State Op Undo : Type 0} (o : Object Shape State Op Undo) (shape 
 
   -- What is kept follows a BEGIN.
   pub follows_begin : (u p : Name) (b : Option Tree) → IsRun o shape h (past ++ Begin u p b ∷ rest) committed
-      → ((t : Name) → own_in t more ≡ cond (u =ⁿ t) [] (own_in t kept)) → ((t : Name) → least_in t more ≡ cond (u =ⁿ t) serial.count (least_in t kept))
+      → ((t : Name) → own_in t more ≡ cond (u =ⁿ t) [] (own_in t kept)) → ((t : Name) → least_in t more ≡ cond (u =ⁿ t) n (least_in t kept))
       → ((t : Name) → excluded_in t more ≡ cond (u =ⁿ t) excludes_none (excluded_in t kept))
-      → Follows o shape h (past ++ Begin u p b ∷ []) committed serial more
+      → Follows o shape h (past ++ Begin u p b ∷ []) committed n more
   follows_begin u p b r own least excluded =
-      follows_next o shape h past rest s committed r serial serial kept more f f.at (omega arith) own_next least_next
+      follows_next o shape h past rest s committed r n n kept more f (omega arith) own_next least_next
       (λ t. excluded_anew u t (excluded t) (λ n. own t ∙ ap (λ (z : Bool). cond z [] (own_in t kept)) n))
     where
       s : Step Op
@@ -194,18 +192,18 @@ module _ {Shape State Op Undo : Type 0} (o : Object Shape State Op Undo) (shape 
             let same = now_began o shape h past rest s committed r t early began starts in
             let step = count_step o shape h past rest s committed r in
             let count = f.count in
-            let here : serial.count ≡ length (attempts h (past ++ s ∷ [])) = omega (arith, step, count) in
-            least t ∙ ap (λ (z : Bool). cond z serial.count (least_in t kept)) e.0 ∙ here ∙ ap (λ (w : List (Step Op)). length (attempts h w)) same
-        | inr e ↦ least t ∙ ap (λ (z : Bool). cond z serial.count (least_in t kept)) e.0 ∙ f.least t early (quiet_began t early past s began (λ m. e.1 m))
+            let here : n ≡ length (attempts h (past ++ s ∷ [])) = omega (arith, step, count) in
+            least t ∙ ap (λ (z : Bool). cond z n (least_in t kept)) e.0 ∙ here ∙ ap (λ (w : List (Step Op)). length (attempts h w)) same
+        | inr e ↦ least t ∙ ap (λ (z : Bool). cond z n (least_in t kept)) e.0 ∙ f.least t early (quiet_began t early past s began (λ m. e.1 m))
       ]
 
   -- What is kept follows an APP.
   pub follows_app : (u : Name) (id : ℕ) (op : Op) → IsRun o shape h (past ++ App u id op ∷ rest) committed
       → ((t : Name) → own_in t more ≡ cond (u =ⁿ t) (own_in t kept ++ record { id = id; op = op } ∷ []) (own_in t kept)) → ((t : Name) → least_in t more ≡ least_in t kept)
       → ((t : Name) → excluded_in t more ≡ excluded_in t kept)
-      → Follows o shape h (past ++ App u id op ∷ []) committed serial more
+      → Follows o shape h (past ++ App u id op ∷ []) committed n more
   follows_app u id op r own least excluded =
-      follows_next o shape h past rest (App u id op) committed r serial serial kept more f f.at (omega arith) own
+      follows_next o shape h past rest (App u id op) committed r n n kept more f (omega arith) own
       (λ t early b. least t ∙ f.least t early (quiet_began t early past (App u id op) b (λ m. m))) excluded_more
     where
       item : Item Op
@@ -223,14 +221,13 @@ module _ {Shape State Op Undo : Type 0} (o : Object Shape State Op Undo) (shape 
       ]
 
   -- What is kept follows the same steps after a question about one transaction, which may exclude numbers.
-  pub follows_asked : (u : Name) (new : Serial State Undo) → IsAt o shape committed new → new.count ≡ serial.count
+  pub follows_asked : (u : Name)
       → ((t : Name) → own_in t more ≡ own_in t kept) → ((t : Name) → least_in t more ≡ least_in t kept)
       → ((t : Name) → (u =ⁿ t) ≡ false → excluded_in t more ≡ excluded_in t kept)
       → AreExcluded (rules_of o shape) committed (own_in u kept) (excluded_in u more)
-      → Follows o shape h past committed new more
-  follows_asked u new at count own least others excluded = record {
-    at = at;
-    count = count ∙ f.count;
+      → Follows o shape h past committed n more
+  follows_asked u own least others excluded = record {
+    count = f.count;
     own = λ t. own t ∙ f.own t;
     least = λ t early b. least t ∙ f.least t early b;
     excluded = λ t. elim (names_tell u t) [
@@ -245,11 +242,11 @@ module _ {Shape State Op Undo : Type 0} (o : Object Shape State Op Undo) (shape 
   pub follows_unapp : (u : Name) (id : ℕ) → IsRun o shape h (past ++ Unapp u id ∷ rest) committed
       → ((t : Name) → own_in t more ≡ cond (u =ⁿ t) (take (length (own_in t kept) - 1) (own_in t kept)) (own_in t kept))
       → ((t : Name) → (u =ⁿ t) ≡ false → least_in t more ≡ least_in t kept)
-      → (own_in u more ≢ [] → least_in u more ≡ least_in u kept) → (own_in u kept ≢ [] → own_in u more ≡ [] → least_in u more ≡ serial.count)
+      → (own_in u more ≢ [] → least_in u more ≡ least_in u kept) → (own_in u kept ≢ [] → own_in u more ≡ [] → least_in u more ≡ n)
       → ((t : Name) → excluded_in t more ≡ cond (u =ⁿ t) excludes_none (excluded_in t kept))
-      → Follows o shape h (past ++ Unapp u id ∷ []) committed serial more
+      → Follows o shape h (past ++ Unapp u id ∷ []) committed n more
   follows_unapp u id r own others still begins excluded =
-      follows_next o shape h past rest s committed r serial serial kept more f f.at (omega arith) own least_next
+      follows_next o shape h past rest s committed r n n kept more f (omega arith) own least_next
       (λ t. excluded_anew u t (excluded t) (λ n. own t ∙ ap (λ (z : Bool). cond z (take (length (own_in t kept) - 1) (own_in t kept)) (own_in t kept)) n))
     where
       s : Step Op
@@ -270,7 +267,7 @@ module _ {Shape State Op Undo : Type 0} (o : Object Shape State Op Undo) (shape 
             let same = now_began o shape h past rest s committed r u early began starts in
             let step = count_step o shape h past rest s committed r in
             let count = f.count in
-            let here : serial.count ≡ length (attempts h (past ++ s ∷ [])) = omega (arith, step, count) in
+            let here : n ≡ length (attempts h (past ++ s ∷ [])) = omega (arith, step, count) in
             begins some (own_now ∙ none) ∙ here ∙ ap (λ (w : List (Step Op)). length (attempts h w)) same
         | inr left ↦ still (λ e. left (sym own_now ∙ e)) ∙ f.least u early (began_before u early past s began (λ k. left k.3))
       ]
@@ -283,8 +280,8 @@ module _ {Shape State Op Undo : Type 0} (o : Object Shape State Op Undo) (shape 
 
 -- after an APP, what is asked of its transaction
 module _ {Shape State Op Undo : Type 0} (o : Object Shape State Op Undo) (shape : Shape) (h : Option (Start Op)) (past rest : List (Step Op)) (u : Name) (id : ℕ) (op : Op)
-    (committed : List (CommittedTx Op)) (serial : Serial State Undo) (kept : List (Name × OpenAttempt Op)) (r : IsRun o shape h (past ++ App u id op ∷ rest) committed)
-    (f : Follows o shape h (past ++ App u id op ∷ []) committed serial kept) where
+    (committed : List (CommittedTx Op)) (n : ℕ) (kept : List (Name × OpenAttempt Op)) (r : IsRun o shape h (past ++ App u id op ∷ rest) committed)
+    (f : Follows o shape h (past ++ App u id op ∷ []) committed n kept) where
   abbrev s : Step Op
   s = App u id op
 
@@ -302,30 +299,25 @@ module _ {Shape State Op Undo : Type 0} (o : Object Shape State Op Undo) (shape 
   began_after_app = began_some O h r.met u now runs_now (applied_open O h r.met now runs_now past u id op runs_now).1
 
   -- The window of an attempt begins no later than now.
-  pub low_within : least_in u kept ≤ serial.count
+  pub low_within : least_in u kept ≤ n
   low_within =
       let low = f.least u began_after_app.0 began_after_app.1 in
       let fewer = fewer_before O h r.met began_after_app.0 now runs_now (began_after_app.1).within in
       let high = f.count in
       omega (arith, low, fewer, high)
 
-  -- The own list may be asked about.
-  pub may_ask : MayAskOf o shape committed u kept serial
-  may_ask = record {
-    run = run_serial o shape h (past ++ s ∷ rest) committed r;
-    at = f.at;
-    may = subst (λ (w : List (Item Op)). MayBeTried o shape (length (serial_ops committed)) w) (sym (f.own u))
-        (own_tried o shape h (past ++ s ∷ rest) committed r u now (now_within o shape h past rest s committed r));
-    none = f.excluded u;
-  }
+  -- The own list may be tried.
+  pub may_try : MayBeTried o shape (length (serial_ops committed)) (own_in u kept)
+  may_try = subst (λ (w : List (Item Op)). MayBeTried o shape (length (serial_ops committed)) w) (sym (f.own u))
+      (own_tried o shape h (past ++ s ∷ rest) committed r u now (now_within o shape h past rest s committed r))
 
-  serial_now : (n : ℕ) → n ≤ length (attempts h now) → serial_ops (take n committed) ≡ serial_list (take n (attempts h now))
-  serial_now n within =
-      ap (λ (w : List (CommittedTx Op)). serial_ops (take n w)) r.done ∙ serial_of n (attempts h (past ++ s ∷ rest))
-      ∙ seen_in_whole O h r.met now (past ++ s ∷ rest) u n r.run (now_within o shape h past rest s committed r) within
+  serial_now : (k : ℕ) → k ≤ length (attempts h now) → serial_ops (take k committed) ≡ serial_list (take k (attempts h now))
+  serial_now k within =
+      ap (λ (w : List (CommittedTx Op)). serial_ops (take k w)) r.done ∙ serial_of k (attempts h (past ++ s ∷ rest))
+      ∙ seen_in_whole O h r.met now (past ++ s ∷ rest) u k r.run (now_within o shape h past rest s committed r) within
 
   -- What is explained by a number in the window is seen.
-  pub explained_sees : IsExplained O committed (own_in u kept) (least_in u kept) serial.count → SeesSome O h now u
+  pub explained_sees : IsExplained O committed (own_in u kept) (least_in u kept) n → SeesSome O h now u
   explained_sees e =
       let most : e.0 ≤ length (attempts h now) = subst (λ (n : ℕ). e.0 ≤ n) f.count e.2 in
       record {
@@ -338,13 +330,21 @@ module _ {Shape State Op Undo : Type 0} (o : Object Shape State Op Undo) (shape 
       }
 
   -- What is seen is explained by a number in the window.
-  pub sees_explained : SeesSome O h now u → IsExplained O committed (own_in u kept) (least_in u kept) serial.count
+  pub sees_explained : SeesSome O h now u → IsExplained O committed (own_in u kept) (least_in u kept) n
   sees_explained k = (
     k.n,
     subst (λ (n : ℕ). n ≤ k.n) (sym (f.least u k.early k.began)) k.least,
     subst (λ (n : ℕ). k.n ≤ n) (sym f.count) k.most,
     subst (λ (w : List (Item Op)). Allowed O (serial_ops (take k.n committed) ++ ops w)) (sym (f.own u)) (subst (λ (w : List Op). Allowed O (w ++ ops (own_of u now))) (sym (serial_now k.n k.most)) k.sees),
   )
+
+-- What is applied after the serial run may be tried.
+pub applied_tried : {Shape State Op Undo : Type 0} (o : Object Shape State Op Undo) (shape : Shape) (h : Option (Start Op)) (past ss : List (Step Op)) (committed : List (CommittedTx Op)) → IsRun o shape h ss committed
+    → IsPrefix past ss → (n : ℕ) (kept : List (Name × OpenAttempt Op)) → Follows o shape h past committed n kept → (applied : Option Name)
+    → MayBeTried o shape (length (serial_ops committed)) (applied_in applied kept)
+applied_tried o shape h past ss committed r within n kept f None = record { fit = tt; ranged = tt; few = let few = r.few in omega (arith, few) }
+applied_tried {Shape} {State} {Op} o shape h past ss committed r within n kept f (Some t) =
+    subst (λ (w : List (Item Op)). MayBeTried o shape (length (serial_ops committed)) w) (sym (f.own t)) (own_tried o shape h ss committed r t past within)
 
 -- no attempt began before the first step
 no_began : {Op : Type 0} (t : Name) (early : List (Step Op)) → Began t early [] → ⊥
@@ -362,10 +362,9 @@ module _ {Shape State Op Undo : Type 0} (o : Object Shape State Op Undo) (shape 
       omega (arith, e, all, length-append (start_attempts h) (map (attempt_of ss) (commits ss)))
 
   -- What is kept follows no step.
-  pub follows_first : (given : ℕ) → given ≡ length (start_attempts h) → (serial : Serial State Undo) (kept : List (Name × OpenAttempt Op)) → IsAt o shape committed serial → serial.count ≡ given → kept ≡ []
-      → Follows o shape h [] committed serial kept
-  follows_first given e serial kept at count none = record {
-    at = at;
+  pub follows_first : (given : ℕ) → given ≡ length (start_attempts h) → (n : ℕ) (kept : List (Name × OpenAttempt Op)) → n ≡ given → kept ≡ []
+      → Follows o shape h [] committed n kept
+  follows_first given e n kept count none = record {
     count = count ∙ e ∙ ap (λ (w : List (Attempt Op)). length w) (sym (append-nil (start_attempts h)));
     own = λ t. ap (λ (w : List (Name × OpenAttempt Op)). own_in t w) none;
     least = λ t early b. absurd (no_began t early b);

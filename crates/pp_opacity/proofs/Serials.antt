@@ -1,19 +1,21 @@
 -- Proof machinery: the serial run of the committed transactions, after any number of them.
-use Rattle.std.specs.Prelude.{◌≡◌, ◌<◌, ◌+◌, ℕ, Bool, IsTrue, List, [], ◌∷◌, ◌++◌, length, take, drop, ◌≤◌}
-use Rattle.std.proofs.Common.{sym, ap, subst, ◌∙◌, arith, get_or, inl, inr}
+use Rattle.std.specs.Prelude.{◌≡◌, ◌↔◌, ◌<◌, ◌+◌, ◌-◌, ℕ, Bool, true, false, cond, IsTrue, List, [], ◌∷◌, ◌++◌, length, take, drop, ◌≤◌}
+use Rattle.std.proofs.Common.{sym, ap, subst, ◌∙◌, arith, append_assoc, get_or, inl, inr}
 use Rattle.std.proofs.Math.Seq.{take-length}
-use Rattle.std.proofs.lemmas.List.{length-append, take-take}
+use Rattle.std.proofs.lemmas.List.{append-nil, length-append, length-drop, map-append, take-append-drop, take-take, take_all}
 use Rattle.pp_model.specs.Config.{CommittedTx}
 use Rattle.pp_model.specs.Lists.{Each}
 use Rattle.pp_model.specs.Object.{Item, ops}
 use Rattle.pp_model.specs.Sound.{serial_ops}
 use Rattle.pp_model.proofs.Lengths.{length-ops}
-use Rattle.pp_kind.specs.Object.{Object, AllowedFrom, AllRanged, IsAllowed, IsLawful, IsLog}
+use Rattle.pp_kind.specs.Object.{Object, AllowedFrom, AllRanged, IsAllowed, IsLawful, IsLog, rules_of}
 use Rattle.pp_kind.proofs.Lists.{allowed-first, ranged-append, ranged-first}
 use Rattle.pp_attempts.specs.Trying.{IsTrail, MayFollow}
-use Rattle.pp_attempts.specs.Views.{MayBeTried}
+use Rattle.pp_attempts.specs.Views.{Explains, MayBeTried}
+use Rattle.pp_attempts.proofs.Trails.{may-first}
 use Rattle.pp_attempts.proofs.Viewing.{allowed_fit, serial_cut, serial_next, serial_within}
-use Rattle.pp_opacity.specs.Trials.{IsSerial, IsTried}
+use Rattle.pp_opacity.specs.Attempts.{Excluded}
+use Rattle.pp_opacity.specs.Trials.{IsAppliedIf, IsAt, IsSerial, IsTried, IsWith, MayExtend, Serial}
 
 -- what is true of each element of two lists is true of each of them joined
 each_both : {A : Type 0} (P : A → Type 0) (x y : List A) → Each P x → Each P y → Each P (x ++ y)
@@ -85,3 +87,54 @@ pub longer_by : {Op : Type 0} (D : List (CommittedTx Op)) (i : ℕ) (d : Committ
 longer_by {Op} D i d there is =
     let all = ap (λ (w : List Op). length w) (serial_next D i d there is) in
     omega (arith, all, length-append (serial_ops (take i D)) (ops d.entries), length-ops d.entries)
+
+-- The items from a position on, all of them.
+pub rest_of : {Op : Type 0} (first : ℕ) (items : List (Item Op)) → take (length items - first) (drop first items) ≡ drop first items
+rest_of first items = let all = length-drop first items in take_all (length items - first) (drop first items) (omega (arith, all))
+
+-- Items are the first of them, and then the others.
+pub cut_ops : {Op : Type 0} (x : List Op) (first : ℕ) (items : List (Item Op)) → x ++ ops items ≡ (x ++ ops (take first items)) ++ ops (drop first items)
+cut_ops {Op} x first items =
+    ap (λ (w : List (Item Op)). x ++ ops w) (sym (take-append-drop first items)) ∙ ap (λ (w : List Op). x ++ w) (map-append (λ (p : Item Op). p.op) (take first items) (drop first items))
+    ∙ sym (append_assoc x (ops (take first items)) (ops (drop first items)))
+
+module _ {Shape State Op Undo : Type 0} (o : Object Shape State Op Undo) where
+  -- The operations from a position on were applied after the others, if they are allowed there.
+  pub extended : (s t : State) (x : List Op) (first : ℕ) (items : List (Item Op)) (yes : Bool) (us : List Undo) → IsAppliedIf o s (x ++ ops (take first items)) (ops (drop first items)) yes us t
+      → IsTrail o s (x ++ ops (cond yes items (take first items))) us t
+  extended s t x first items true us h = subst (λ (w : List Op). IsTrail o s w us t) (sym (cut_ops x first items)) h.trail
+  extended s t x first items false us h = subst (λ (w : List Op). IsTrail o s w us t) (append-nil (x ++ ops (take first items))) h.trail
+
+  module _ (laws : IsLawful o) (shape : Shape) (D : List (CommittedTx Op)) (first : ℕ) (items : List (Item Op)) (excluded : Excluded) (serial : Serial State Undo)
+      (m : MayExtend o shape D items first excluded serial) where
+    abbrev before : List Op
+    before = serial_ops (take serial.count D)
+
+    -- The operations from a position on may follow those before it.
+    pub may_extend : MayFollow o (o.start shape) ((before ++ ops (take first items)) ++ ops (drop first items))
+    may_extend = subst (λ (w : List Op). MayFollow o (o.start shape) w) (cut_ops before first items) (may_asked o laws shape D m.run serial.count items m.may)
+
+    -- Those before it may follow the first transactions.
+    pub may_begin : MayFollow o (o.start shape) (before ++ ops (take first items))
+    may_begin = may-first o (o.start shape) (before ++ ops (take first items)) (ops (drop first items)) may_extend
+
+    -- Whether they are applied says whether the items are explained.
+    pub extends_explained : (yes : Bool) (us : List Undo) (t : State) → IsAppliedIf o (o.start shape) (before ++ ops (take first items)) (ops (drop first items)) yes us t
+        → IsTrue yes ↔ Explains (rules_of o shape) D items serial.count
+    extends_explained all us t h = (
+      λ k. subst (λ (w : List Op). AllowedFrom o (o.start shape) w) (sym (cut_ops before first items)) (h.decides.0 k),
+      λ k. h.decides.1 (subst (λ (w : List Op). AllowedFrom o (o.start shape) w) (cut_ops before first items) k),
+    )
+
+module _ {Shape State Op Undo : Type 0} (o : Object Shape State Op Undo) (shape : Shape) (D : List (CommittedTx Op)) (serial : Serial State Undo) where
+  -- If nothing is applied after the serial run, it is there alone.
+  pub alone : IsWith o shape D [] serial → IsAt o shape D serial
+  alone w = record { within = w.within; trail = subst (λ (x : List Op). IsTrail o (o.start shape) x serial.undos.items serial.state) (append-nil (serial_ops (take serial.count D))) w.trail }
+
+  -- A serial run alone is one after which nothing is applied.
+  pub with_none : IsAt o shape D serial → IsWith o shape D [] serial
+  with_none w = record { within = w.within; trail = subst (λ (x : List Op). IsTrail o (o.start shape) x serial.undos.items serial.state) (sym (append-nil (serial_ops (take serial.count D)))) w.trail }
+
+  -- Equal items and numbers may be asked about.
+  pub asked_same : (items own : List (Item Op)) (known excluded : Excluded) (first : ℕ) → items ≡ own → known ≡ excluded → MayExtend o shape D own first excluded serial → MayExtend o shape D items first known serial
+  asked_same items own known excluded first a b m = subst (λ (w : List (Item Op)). MayExtend o shape D w first known serial) (sym a) (subst (λ (w : Excluded). MayExtend o shape D own first w serial) (sym b) m)

@@ -1,8 +1,8 @@
 -- Proof machinery: operations that are applied after others, and taken back.
-use Rattle.std.specs.Prelude.{◌≡◌, ◌<◌, ◌≤◌, ◌+◌, ℕ, Bool, true, false, IsTrue, List, [], ◌∷◌, ◌++◌, length, take, drop}
+use Rattle.std.specs.Prelude.{◌≡◌, ◌<◌, ◌≤◌, ◌+◌, ℕ, Bool, true, false, IsTrue, List, [], ◌∷◌, ◌++◌, cond, length, take, drop}
 use Rattle.std.proofs.Common.{refl, sym, ap, subst, ◌∙◌, arith, get_or, append_assoc, inl, inr}
 use Rattle.std.proofs.Math.Seq.{take-length}
-use Rattle.std.proofs.lemmas.List.{length-append, length-take, same_from_push, take-append-drop, take-map}
+use Rattle.std.proofs.lemmas.List.{append-nil, length-append, length-take, same_from_push, take-append-drop, take-map}
 use Rattle.pp_model.specs.Object.{Item, ops}
 use Rattle.pp_kind.specs.Calls.{WasApplied}
 use Rattle.pp_kind.specs.Object.{Object, IsLegal, IsReached, AllowedFrom, IsLawful, state_from}
@@ -10,7 +10,7 @@ use Rattle.pp_kind.proofs.Lists.{allowed-append, allowed-first, allowed-second, 
 use Rattle.pp_attempts.specs.Trying.{IsTrail, MayFollow, kept_from}
 use Rattle.pp_attempts.proofs.Fronts.{cut_there, take_there}
 use Rattle.pp_attempts.proofs.Trails.{kept-append, may-first, next_fits, next_ranged, reached_there}
-use Rattle.pp_opacity.specs.Trials.{IsDecidedNext, IsTried}
+use Rattle.pp_opacity.specs.Trials.{IsAppliedIf, IsDecidedNext, IsTried}
 
 module _ {Shape State Op Undo : Type 0} (o : Object Shape State Op Undo) where
   -- For each operation one undo value is kept.
@@ -151,18 +151,32 @@ module _ {Shape State Op Undo : Type 0} (o : Object Shape State Op Undo) where
         subst (λ (w : List Op). IsTrail o s (x ++ w) vs t) same h.trail,
       )
 
-  -- What was taken back, after it was tried, says whether the list is allowed.
-  pub decided : (s t u : State) (x l : List Op) (all : Bool) (us vs : List Undo) → IsTried o s x l all us t → IsTrail o s x vs u → IsDecidedNext o s x l all vs u
-  decided s t u x l all us vs h back = record {
-    trail = back;
+  -- If all of the list were applied, it is allowed.
+  pub applied_all : (s t : State) (x l : List Op) (us : List Undo) → IsTried o s x l true us t → IsAppliedIf o s x l true us t
+  applied_all s t x l us h = elim h.whole [
+    | inl w ↦
+        let whole = subst (λ (v : List Op). IsTrail o s (x ++ v) us t) (ap (λ (n : ℕ). take n l) w.1 ∙ take-length l) h.trail in
+        record { trail = whole; decides = (λ k. whole.allowed, λ k. refl) }
+    | inr w ↦ absurd (let no : true ≡ false = w.0 in cc)
+  ]
+
+  -- If not all of the list were applied, and these are taken back, it is the same as before.
+  pub applied_none : (s t u : State) (x l : List Op) (us vs : List Undo) → IsTried o s x l false us t → IsTrail o s x vs u → IsAppliedIf o s x l false vs u
+  applied_none s t u x l us vs h back = record {
+    trail = subst (λ (w : List Op). IsTrail o s w vs u) (sym (append-nil x)) back;
     decides = elim h.whole [
-      | inl w ↦ (
-        (λ k. subst (λ (v : List Op). AllowedFrom o s (x ++ v)) (ap (λ (n : ℕ). take n l) w.1 ∙ take-length l) (h.trail).allowed),
-        (λ k. w.0),
-      )
-      | inr w ↦ (
-        (λ k. absurd (let no : true ≡ false = sym k ∙ w.0 in cc)),
-        (λ k. absurd (w.1 k)),
-      )
+      | inl w ↦ absurd (let no : false ≡ true = w.0 in cc)
+      | inr w ↦ ((λ k. absurd (let no : false ≡ true = k in cc)), (λ k. absurd (w.1 k)))
     ];
   }
+
+  -- What is applied if it is allowed is taken back.
+  pub decided_after : (s t : State) (x l : List Op) (all : Bool) (us : List Undo) → IsAppliedIf o s x l all us t → all ≡ false → IsDecidedNext o s x l all us t
+  decided_after s t x l all us h none = record {
+    trail = subst (λ (w : List Op). IsTrail o s w us t) (ap (λ (b : Bool). x ++ cond b l []) none ∙ append-nil x) h.trail;
+    decides = h.decides;
+  }
+
+  -- What is applied is the list, if it is allowed.
+  pub applied_whole : (s t : State) (x l : List Op) (all : Bool) (us : List Undo) → IsAppliedIf o s x l all us t → all ≡ true → IsTrail o s (x ++ l) us t
+  applied_whole s t x l all us h whole = subst (λ (b : Bool). IsTrail o s (x ++ cond b l []) us t) whole h.trail

@@ -1,5 +1,5 @@
 -- Proof machinery: the numbers of a window, from the high end down.
-use Rattle.std.specs.Prelude.{◌≡◌, ◌⊎◌, ◌↔◌, ◌<◌, ◌≤◌, ◌+◌, ◌*◌, ℕ, suc, Bool, true, false, cond, IsTrue, List, ◌++◌, take, None, Some}
+use Rattle.std.specs.Prelude.{◌≡◌, ◌⊎◌, ◌↔◌, ◌<◌, ◌≤◌, ◌+◌, ◌*◌, ℕ, suc, Bool, true, false, cond, IsTrue, List, ◌++◌, take, Option, None, Some}
 use Rattle.std.proofs.Common.{refl, sym, ap, subst, ◌∙◌, arith, inl, inr, append_assoc}
 use Rattle.std.proofs.Math.Nat.{mul-le-mul_right, suc-mul}
 use Rattle.std.proofs.lemmas.List.{map-append}
@@ -44,6 +44,28 @@ module _ {Op State : Type 0} (O : Object Op State) (committed : List (CommittedT
     | inr found ↦ let z : false ≡ true = found in cc
   ]
 
+  -- If a number explains no items, the answer for those below it is that for those up to it.
+  pub greatest_below : (low n high : ℕ) (found : Option ℕ) → n + 1 ≡ high → (Explains O committed items high → ⊥) → IsGreatest O committed items low n found → IsGreatest O committed items low high found
+  greatest_below low n high None e none g = λ k. elim (below_next k.0 high (let within = k.2 in omega (arith, within))) [
+    | inl lower ↦ g (k.0, k.1, omega (arith, lower, e), k.3)
+    | inr same ↦ none (subst (λ (i : ℕ). Explains O committed items i) same k.3)
+  ]
+  greatest_below low n high (Some m) e none g = (
+    g.0,
+    let within = g.1 in omega (arith, within, e),
+    g.2,
+    λ k after up_to h. elim (below_next k high (omega (arith, up_to))) [
+      | inl lower ↦ g.3 k after (omega (arith, lower, e)) h
+      | inr same ↦ none (subst (λ (i : ℕ). Explains O committed items i) same h)
+    ],
+  )
+
+  -- No number below the lowest explains the items.
+  pub none_lower : (low high : ℕ) → high ≡ low → (Explains O committed items high → ⊥) → IsGreatest O committed items low high None
+  none_lower low high e none = λ k.
+      let same : k.0 ≡ high = omega (arith, e, k.1, k.2) in
+      none (subst (λ (i : ℕ). Explains O committed items i) same k.3)
+
   -- No number that is excluded explains more items.
   pub excluded_longer : (more : List (Item Op)) (excluded : Excluded) → AreExcluded O committed items excluded → AreExcluded O committed (items ++ more) excluded
   excluded_longer more excluded none n after up_to e =
@@ -62,3 +84,10 @@ module _ {Op State : Type 0} (O : Object Op State) (committed : List (CommittedT
   pub excluded_same : (more : List (Item Op)) (a b : Excluded) → more ≡ items → b ≡ a → AreExcluded O committed items a → AreExcluded O committed more b
   excluded_same more a b same equal none =
       subst (λ (w : List (Item Op)). AreExcluded O committed w b) (sym same) (subst (λ (w : Excluded). AreExcluded O committed items w) (sym equal) none)
+
+-- The answer for equal items and an equal window is the same.
+pub greatest_same : {Op State : Type 0} (O : Object Op State) (committed : List (CommittedTx Op)) (items own : List (Item Op)) (low least n m : ℕ) (found other : Option ℕ)
+    → items ≡ own → low ≡ least → n ≡ m → found ≡ other → IsGreatest O committed items low n found → IsGreatest O committed own least m other
+greatest_same {Op} O committed items own low least n m found other a b e k g =
+    subst (λ (w : List (Item Op)). IsGreatest O committed w least m other) a (subst (λ (i : ℕ). IsGreatest O committed items i m other) b
+    (subst (λ (i : ℕ). IsGreatest O committed items low i other) e (subst (λ (z : Option ℕ). IsGreatest O committed items low n z) k g)))

@@ -18,7 +18,6 @@ use Rattle.pp_opacity.specs.Attempts.{OpenAttempt, least_in, own_in}
 use Rattle.pp_opacity.specs.Replays.{Follows, IsSeen}
 use Rattle.pp_opacity.specs.Results.{IsRun, as_zombie}
 use Rattle.pp_opacity.specs.declared.zombie.Zombie.{Zombie as Found}
-use Rattle.pp_opacity.specs.Trials.{Serial}
 use Rattle.pp_opacity.proofs.Replays.{began_after_app, now_runs, now_within, past_runs}
 
 -- No step has no zombie.
@@ -36,13 +35,13 @@ opaque_next {Op} O h past s apps seen before t id op b = elim (prefix_cases (bef
 ]
 
 module _ {Shape State Op Undo : Type 0} (o : Object Shape State Op Undo) (shape : Shape) (h : Option (Start Op)) (past rest : List (Step Op))
-    (committed : List (CommittedTx Op)) (serial : Serial State Undo) (kept : List (Name × OpenAttempt Op)) (u : Name) where
+    (committed : List (CommittedTx Op)) (n : ℕ) (kept : List (Name × OpenAttempt Op)) (u : Name) where
   -- what is kept of a transaction, as a zombie after one step more
   abbrev here : Zombie Op
-  here = record { step = length past + 1; tx = u; least = least_in u kept; most = serial.count; items = own_in u kept }
+  here = record { step = length past + 1; tx = u; least = least_in u kept; most = n; items = own_in u kept }
 
   -- after an APP
-  zombie_after_app : (id : ℕ) (op : Op) → IsRun o shape h (past ++ App u id op ∷ rest) committed → Follows o shape h (past ++ App u id op ∷ []) committed serial kept
+  zombie_after_app : (id : ℕ) (op : Op) → IsRun o shape h (past ++ App u id op ∷ rest) committed → Follows o shape h (past ++ App u id op ∷ []) committed n kept
       → IsOpaqueAtApps (rules_of o shape) h past → (SeesSome (rules_of o shape) h (past ++ App u id op ∷ []) u → ⊥)
       → IsZombie (rules_of o shape) h (past ++ App u id op ∷ rest) here
   zombie_after_app id op r f apps unseen =
@@ -51,7 +50,7 @@ module _ {Shape State Op Undo : Type 0} (o : Object Shape State Op Undo) (shape 
       let now : List (Step Op) = past ++ s ∷ [] in
       let runs = now_runs o shape h past rest s committed r in
       let open_now = applied_open O h r.met now runs past u id op runs in
-      let began = began_after_app o shape h past rest u id op committed serial kept r f in
+      let began = began_after_app o shape h past rest u id op committed n kept r f in
       record {
         past = now;
         within = now_within o shape h past rest s committed r;
@@ -63,12 +62,12 @@ module _ {Shape State Op Undo : Type 0} (o : Object Shape State Op Undo) (shape 
         most = f.count;
         items = f.own u;
         some = open_now.1;
-        unexplained = λ n low high sees. unseen (record {
+        unexplained = λ k low high sees. unseen (record {
           early = began.0;
           began = began.1;
-          n = n;
-          least = subst (λ (k : ℕ). k ≤ n) (f.least u began.0 began.1) low;
-          most = subst (λ (k : ℕ). n ≤ k) f.count high;
+          n = k;
+          least = subst (λ (i : ℕ). i ≤ k) (f.least u began.0 began.1) low;
+          most = subst (λ (i : ℕ). k ≤ i) f.count high;
           sees = sees;
         });
         first = λ before b less. elim (prefix_cases before past s b) [
@@ -78,19 +77,19 @@ module _ {Shape State Op Undo : Type 0} (o : Object Shape State Op Undo) (shape 
       }
 
   -- If a run is opaque so far, and a transaction sees nothing after its APP, it is the first zombie.
-  pub zombie_there : (s : Step Op) → IsRun o shape h (past ++ s ∷ rest) committed → Follows o shape h (past ++ s ∷ []) committed serial kept
+  pub zombie_there : (s : Step Op) → IsRun o shape h (past ++ s ∷ rest) committed → Follows o shape h (past ++ s ∷ []) committed n kept
       → IsOpaqueAtApps (rules_of o shape) h past → IsSeen (rules_of o shape) h past s (Some u) → IsZombie (rules_of o shape) h (past ++ s ∷ rest) here
   zombie_there s r f apps (id, op, is, unseen) =
       subst (λ (w : Step Op). IsZombie (rules_of o shape) h (past ++ w ∷ rest) here) (sym is)
-      (zombie_after_app id op (subst (λ (w : Step Op). IsRun o shape h (past ++ w ∷ rest) committed) is r) (subst (λ (w : Step Op). Follows o shape h (past ++ w ∷ []) committed serial kept) is f)
+      (zombie_after_app id op (subst (λ (w : Step Op). IsRun o shape h (past ++ w ∷ rest) committed) is r) (subst (λ (w : Step Op). Follows o shape h (past ++ w ∷ []) committed n kept) is f)
       apps (subst (λ (w : Step Op). SeesSome (rules_of o shape) h (past ++ w ∷ []) u → ⊥) is unseen))
 
   -- What is found is what is kept of the transaction.
-  pub found_is : (z : Found Op) → z.step ≡ length past + 1 → z.tx ≡ u → z.least ≡ least_in u kept → z.most ≡ serial.count → z.items ≡ own_in u kept → here ≡ as_zombie z
+  pub found_is : (z : Found Op) → z.step ≡ length past + 1 → z.tx ≡ u → z.least ≡ least_in u kept → z.most ≡ n → z.items ≡ own_in u kept → here ≡ as_zombie z
   found_is z a b c d e =
       sym (ap (λ (v : ℕ). the v z.tx z.least z.most z.items) a ∙ ap (λ (v : Name). the (length past + 1) v z.least z.most z.items) b
       ∙ ap (λ (v : ℕ). the (length past + 1) u v z.most z.items) c ∙ ap (λ (v : ℕ). the (length past + 1) u (least_in u kept) v z.items) d
-      ∙ ap (λ (v : List (Item Op)). the (length past + 1) u (least_in u kept) serial.count v) e)
+      ∙ ap (λ (v : List (Item Op)). the (length past + 1) u (least_in u kept) n v) e)
     where
       the : ℕ → Name → ℕ → ℕ → List (Item Op) → Zombie Op
       the step tx least most items = record { step = step; tx = tx; least = least; most = most; items = items }

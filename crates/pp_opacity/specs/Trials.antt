@@ -1,9 +1,9 @@
 -- Proof machinery: operations that are tried after others, and the serial run as it is kept.
-use Rattle.std.specs.Prelude.{◌≡◌, ◌⊎◌, ◌↔◌, ◌≤◌, ◌<◌, ℕ, Bool, true, false, IsTrue, List, ◌++◌}
-use Rattle.std.specs.Prelude.{length, take, Option, None, Some}
+use Rattle.std.specs.Prelude.{◌≡◌, ◌⊎◌, ◌↔◌, ◌≤◌, ◌<◌, ℕ, Bool, true, false, IsTrue, List, [], ◌++◌}
+use Rattle.std.specs.Prelude.{cond, length, take, Option, None, Some}
 use Rattle.pp_model.specs.Config.{CommittedTx}
 use Rattle.pp_model.specs.Object as model
-use Rattle.pp_model.specs.Object.{Item}
+use Rattle.pp_model.specs.Object.{Item, ops}
 use Rattle.pp_model.specs.Sound.{serial_ops}
 use Rattle.pp_kind.specs.Object.{Object, AllowedFrom, AllRanged, IsAllowed, rules_of}
 use Rattle.pp_attempts.specs.Trying.{IsTrail}
@@ -28,6 +28,13 @@ module _ {Shape State Op Undo : Type 0} (o : Object Shape State Op Undo) where
     pub whole : ((all ≡ true) × (count ≡ length l))
         ⊎ ((all ≡ false) × (AllowedFrom o s (x ++ l) → ⊥))
 
+  -- If the list l is allowed after the operations x, `all` is true and it was applied. Otherwise it
+  -- is the same as before.
+  pub record IsAppliedIf (s : State) (x l : List Op) (all : Bool) (undos : List Undo)
+      (t : State) : Type 0 where
+    pub trail : IsTrail o s (x ++ cond all l []) undos t
+    pub decides : IsTrue all ↔ AllowedFrom o s (x ++ l)
+
   -- It is the same as before, and `all` says whether the list l is allowed after the operations x.
   pub record IsDecidedNext (s : State) (x l : List Op) (all : Bool) (undos : List Undo)
       (t : State) : Type 0 where
@@ -46,6 +53,29 @@ module _ {Shape State Op Undo : Type 0} (o : Object Shape State Op Undo) where
     pub within : serial.count ≤ length committed
     pub trail : IsTrail o (o.start shape) (serial_ops (take serial.count committed))
         serial.undos.items serial.state
+
+  -- The items were applied after this serial run of these transactions.
+  pub record IsWith (shape : Shape) (committed : List (CommittedTx Op)) (items : List (Item Op))
+      (serial : Serial State Undo) : Type 0 where
+    pub within : serial.count ≤ length committed
+    pub trail : IsTrail o (o.start shape)
+        (serial_ops (take serial.count committed) ++ ops items) serial.undos.items serial.state
+
+  -- The items were applied after this serial run, and may be taken back.
+  pub record MayTakeBack (shape : Shape) (committed : List (CommittedTx Op))
+      (items : List (Item Op)) (serial : Serial State Undo) : Type 0 where
+    pub run : IsSerial shape committed
+    pub applied : IsWith shape committed items serial
+    pub may : MayBeTried o shape (length (serial_ops committed)) items
+
+  -- The first so many of the items were applied after this serial run, and all may be asked about.
+  -- The excluded numbers do not explain them.
+  pub record MayExtend (shape : Shape) (committed : List (CommittedTx Op)) (items : List (Item Op))
+      (first : ℕ) (excluded : Excluded) (serial : Serial State Undo) : Type 0 where
+    pub run : IsSerial shape committed
+    pub applied : IsWith shape committed (take first items) serial
+    pub may : MayBeTried o shape (length (serial_ops committed)) items
+    pub none : AreExcluded (rules_of o shape) committed items excluded
 
   -- The items may be asked about at this serial run of these transactions, and the excluded numbers
   -- do not explain them.

@@ -1,8 +1,8 @@
 //! Operations that are applied after others, and taken back.
-ghost use Rattle.std.specs.Prelude.{◌+◌, ◌*◌, ◌≤◌, ◌++◌, IfOk, List, OnOk, length};
+ghost use Rattle.std.specs.Prelude.{◌+◌, ◌*◌, ◌≤◌, ◌++◌, [], IfOk, List, OnOk, cond, length};
 ghost use Rattle.pp_model.specs.Object.{ops};
 ghost use Rattle.pp_attempts.specs.Trying.{IsTrail, MayFollow};
-ghost use Rattle.pp_opacity.specs.Trials.{IsDecidedNext, IsTried};
+ghost use Rattle.pp_opacity.specs.Trials.{IsAppliedIf, IsDecidedNext, IsTried};
 
 use pp_core::{Item, OutOfMemory, Ticks};
 use pp_kind::{Applied, Spec};
@@ -65,6 +65,35 @@ pub(crate) fn take_back<S: Spec, L: Ledger>(
     Ok(())
 }
 
+/// Applies operations after those that were applied, if they are allowed there. It returns whether
+/// they are.
+pub(crate) fn apply_if_allowed<S: Spec, L: Ledger>(
+    state: &mut S::State,
+    undos: &mut Vec<S::Undo>,
+    items: &[Item<S::Op>],
+    ticks: &mut Ticks<L>,
+) -> Result<bool, OutOfMemory>
+    requires { (s : S.State) × (x : List S.Op) × MayFollow S.object s (x ++ ops items.now)
+        × IsTrail S.object s x undos.old.items state.old }
+    ensures applied { IfOk result (λ all. (s : S.State) (x : List S.Op)
+        → MayFollow S.object s (x ++ ops items.now)
+        → IsTrail S.object s x undos.old.items state.old
+        → IsAppliedIf S.object s x (ops items.now) all undos.new.items state.new) }
+    ensures rises { ticks.old ≤ ticks.new }
+    ensures bound { ticks.new ≤ ticks.old + 2 * length items.now }
+    ensures paid { IfOk result (λ all. ticks.new + length (cond all items.now [])
+        ≤ ticks.old + 2 * length items.now) }
+{
+    let before = undos.len();
+    let all = apply_list::<S, L>(state, undos, items, ticks)?;
+    if all {
+        return Ok(true);
+    }
+    let count = undos.len() - before;
+    take_back::<S, L>(state, undos, &items[..count], ticks)?;
+    Ok(false)
+}
+
 /// Whether operations are allowed after those that were applied. In the end only these are applied.
 pub(crate) fn is_allowed_next<S: Spec, L: Ledger>(
     state: &mut S::State,
@@ -81,9 +110,10 @@ pub(crate) fn is_allowed_next<S: Spec, L: Ledger>(
     ensures rises { ticks.old ≤ ticks.new }
     ensures bound { ticks.new ≤ ticks.old + 2 * length items.now }
 {
-    let before = undos.len();
-    let all = apply_list::<S, L>(state, undos, items, ticks)?;
-    let count = undos.len() - before;
-    take_back::<S, L>(state, undos, &items[..count], ticks)?;
-    Ok(all)
+    let all = apply_if_allowed::<S, L>(state, undos, items, ticks)?;
+    if !all {
+        return Ok(false);
+    }
+    take_back::<S, L>(state, undos, items, ticks)?;
+    Ok(true)
 }

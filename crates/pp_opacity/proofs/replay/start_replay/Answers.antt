@@ -1,4 +1,5 @@
 use Rattle.pp_opacity.proofs.Replays.{follows_first, given_within, run_serial}
+use Rattle.pp_opacity.proofs.Serials.{with_none}
 use Rattle.pp_opacity.proofs.replay.start_replay.Goals as goal
 
 pub advance_to-requires-clause-within : goal.advance_to-requires-clause-within
@@ -19,5 +20,7 @@ returns-clause-follows g c = λ h ss r e.
     let o = g.S.Spec.object in
     let shape = c.args.shape.now in
     let D = c.args.committed.now in
-    follows_first o shape h ss D r c.args.given e c.advance_to.new.serial _
-    (c.in_ok-advance_to.ensures.at shape (run_serial o shape h ss D r) (c.in_ok-serial.ensures.at D)) c.in_ok-advance_to.ensures.count c.new.ensures.empty
+    record {
+      follows = follows_first o shape h ss D r c.args.given e c.advance_to.new.serial.count _ c.in_ok-advance_to.ensures.count c.new.ensures.empty;
+      at = with_none o shape D c.advance_to.new.serial (c.in_ok-advance_to.ensures.at shape (run_serial o shape h ss D r) (c.in_ok-serial.ensures.at D));
+    }

@@ -1,6 +1,7 @@
-use Rattle.std.proofs.Common.{◌≡◌, ◌+◌, ◌++◌, ◌∷◌, List, length, take, drop, sym, subst, arith, ◌≤◌}
+use Rattle.std.proofs.Common.{◌≡◌, ◌+◌, ◌++◌, ◌∷◌, List, Option, length, take, drop, sym, ap, subst, arith, ◌≤◌}
 use Rattle.std.proofs.lemmas.List.{length-map, length-take, take_all}
 use Rattle.pp_core.specs.Steps.{Step, meaning}
+use Rattle.pp_model.specs.Names.{Name}
 use Rattle.pp_kind.specs.Object.{rules_of}
 use Rattle.pp_attempts.specs.Peaks.{meanings}
 use Rattle.pp_attempts.proofs.Collecting.{meanings_cut, meanings_take}
@@ -10,7 +11,7 @@ use Rattle.pp_attempts.proofs.Viewing.{serial_within}
 use Rattle.pp_laws_opacity.proofs.Apps.{from_apps}
 use Rattle.pp_laws_opacity.proofs.Prefixes.{prefix_same}
 use Rattle.pp_opacity.specs.Costs.{searching_at_most}
-use Rattle.pp_opacity.specs.Replays.{Follows, IsSeen}
+use Rattle.pp_opacity.specs.Replays.{IsReplay, IsSeen, applied_in}
 use Rattle.pp_opacity.specs.Results.{IsRun, as_zombie}
 use Rattle.pp_opacity.proofs.Costs.{next_within, spent, spent_first, spent_within}
 use Rattle.pp_opacity.proofs.Zombies.{found_is, opaque_first, opaque_next, zombie_there}
@@ -24,7 +25,8 @@ loop-i-init g c = record {
   cost = λ h r e.
       let first = spent_first h c.args.committed.now c.args.given e in
       let bound = c.in_ok-replay.ensures.bound in
-      omega (arith, first, bound);
+      let none = ap (λ (a : Option Name). length (applied_in a c.in_ok-replay.replay.attempts.entries)) c.in_ok-replay.ensures.none in
+      omega (arith, first, bound, none);
 }
 
 pub take-requires : goal.take-requires
@@ -62,7 +64,7 @@ loop-i-preserved g c =
     record {
       follows = λ h r e.
           let run = subst (λ (w : List (Step _)). IsRun o shape h w D) cut r in
-          subst (λ (w : List (Step _)). Follows o shape h w D c.take.new.replay.serial c.take.new.replay.attempts.entries) (sym grown)
+          subst (λ (w : List (Step _)). IsReplay o shape h w D c.take.new.replay.serial c.take.new.replay.attempts.entries c.take.new.replay.applied) (sym grown)
           (c.in_ok-tx.ensures.follows shape h past rest run (inv.follows h r e));
       opaque = λ h r e.
           let run = subst (λ (w : List (Step _)). IsRun o shape h w D) cut r in
@@ -71,9 +73,9 @@ loop-i-preserved g c =
       rises = omega (arith, up, rises);
       cost = λ h r e.
           let run = subst (λ (w : List (Step _)). IsRun o shape h w D) cut r in
-          subst (λ (w : List (Step _)). c.take.new.ticks ≤ c.args.ticks.now + spent h D w) (sym grown)
-          (next_within o shape h past rest (meaning step) D run c.args.ticks.now c.loop-i.ticks c.take.new.ticks (inv.cost h r e)
-          (c.in_ok-tx.ensures.bound shape h past rest run (inv.follows h r e))).0;
+          subst (λ (w : List (Step _)). c.take.new.ticks + length (applied_in c.take.new.replay.applied c.take.new.replay.attempts.entries) ≤ c.args.ticks.now + spent h D w) (sym grown)
+          (next_within o shape h past rest (meaning step) D run c.args.ticks.now (c.loop-i.ticks + length (applied_in c.loop-i.replay.applied c.loop-i.replay.attempts.entries))
+          (c.take.new.ticks + length (applied_in c.take.new.replay.applied c.take.new.replay.attempts.entries)) (inv.cost h r e) (c.in_ok-tx.ensures.paid shape h past rest run (inv.follows h r e))).0;
     }
 
 pub returns-in-Some-clause-found : goal.returns-in-Some-clause-found
@@ -102,8 +104,8 @@ returns-in-Some-clause-found g c = λ h r e.
     let size = length-take i steps in
     let at = said.step in
     let number : z.step ≡ length past + 1 = omega (arith, long, size, there, at) in
-    let zombie = zombie_there o shape h past rest D serial kept u (meaning step) run (c.in_ok-tx.ensures.follows shape h past rest run follows) (inv.opaque h r e) seen in
-    let same = found_is o shape h past rest D serial kept u z number said.tx said.least said.most said.items in
+    let zombie = zombie_there o shape h past rest D serial.count kept u (meaning step) run (c.in_ok-tx.ensures.follows shape h past rest run follows).follows (inv.opaque h r e) seen in
+    let same = found_is o shape h past rest D serial.count kept u z number said.tx said.least said.most said.items in
     subst (λ (w : List (Step _)). IsZombie (rules_of o shape) h w (as_zombie z)) (sym cut) (subst (λ w. IsZombie (rules_of o shape) h (past ++ meaning step ∷ rest) w) same zombie)
 
 pub returns-in-Some-clause-bound : goal.returns-in-Some-clause-bound
@@ -123,7 +125,7 @@ returns-in-Some-clause-bound g c = λ h r e.
     let inv = c.loop-i.invariant in
     let follows = inv.follows h r e in
     subst (λ (w : List (Step _)). c.take.new.ticks ≤ c.args.ticks.now + searching_at_most h w D) (sym cut)
-    (next_within o shape h past rest (meaning step) D run c.args.ticks.now c.loop-i.ticks c.take.new.ticks (inv.cost h r e) (c.in_ok-tx.ensures.bound shape h past rest run follows)).1
+    (next_within o shape h past rest (meaning step) D run c.args.ticks.now (c.loop-i.ticks + length (applied_in c.loop-i.replay.applied c.loop-i.replay.attempts.entries)) c.take.new.ticks (inv.cost h r e) (c.in_ok-tx.ensures.bound shape h past rest run follows)).1
 
 pub returns-in_err-zombie-clause-bound : goal.returns-in_err-zombie-clause-bound
 returns-in_err-zombie-clause-bound g c = λ h r e.
@@ -142,7 +144,7 @@ returns-in_err-zombie-clause-bound g c = λ h r e.
     let inv = c.loop-i.invariant in
     let follows = inv.follows h r e in
     subst (λ (w : List (Step _)). c.take.new.ticks ≤ c.args.ticks.now + searching_at_most h w D) (sym cut)
-    (next_within o shape h past rest (meaning step) D run c.args.ticks.now c.loop-i.ticks c.take.new.ticks (inv.cost h r e) (c.in_ok-tx.ensures.bound shape h past rest run follows)).1
+    (next_within o shape h past rest (meaning step) D run c.args.ticks.now (c.loop-i.ticks + length (applied_in c.loop-i.replay.applied c.loop-i.replay.attempts.entries)) c.take.new.ticks (inv.cost h r e) (c.in_ok-tx.ensures.bound shape h past rest run follows)).1
 
 pub returns-in_err-tx-clause-bound : goal.returns-in_err-tx-clause-bound
 returns-in_err-tx-clause-bound g c = λ h r e.
@@ -161,7 +163,7 @@ returns-in_err-tx-clause-bound g c = λ h r e.
     let inv = c.loop-i.invariant in
     let follows = inv.follows h r e in
     subst (λ (w : List (Step _)). c.take.new.ticks ≤ c.args.ticks.now + searching_at_most h w D) (sym cut)
-    (next_within o shape h past rest (meaning step) D run c.args.ticks.now c.loop-i.ticks c.take.new.ticks (inv.cost h r e) (c.in_err-tx.ensures.bound shape h past rest run follows)).1
+    (next_within o shape h past rest (meaning step) D run c.args.ticks.now (c.loop-i.ticks + length (applied_in c.loop-i.replay.applied c.loop-i.replay.attempts.entries)) c.take.new.ticks (inv.cost h r e) (c.in_err-tx.ensures.bound shape h past rest run follows)).1
 
 pub returns-in_err-replay-clause-bound : goal.returns-in_err-replay-clause-bound
 returns-in_err-replay-clause-bound g c = λ h r e.
@@ -182,5 +184,5 @@ returns-clause-bound g c = λ h r e.
     let steps = c.args.steps.now in
     let whole = take_all c.loop-i.i steps (omega (arith, c.loop-i-test.false)) in
     let within = spent_within h D (meanings steps) (meanings steps) (prefix_same (meanings steps)) in
-    let cost = subst (λ w. c.loop-i.ticks ≤ c.args.ticks.now + spent h D (meanings w)) whole (c.loop-i.invariant.cost h r e) in
+    let cost = subst (λ w. c.loop-i.ticks + length (applied_in c.loop-i.replay.applied c.loop-i.replay.attempts.entries) ≤ c.args.ticks.now + spent h D (meanings w)) whole (c.loop-i.invariant.cost h r e) in
     omega (arith, within, cost)
