@@ -6,8 +6,6 @@
 Each run is split into as many parts as it has objects, and once more into two. `check` has to accept the run if `judge`
 does. If not, it has to print the fault of `judge`, or its line, rule, criterion and evidence. The first run on which it
 does not is shown, and then the status is 1. It is 1 too if no run is rejected after a split.
-
-`judge` does not take every style. With `--certify` the command `certify` is asked in its place, which prints the same.
 """
 import argparse
 import collections
@@ -26,7 +24,6 @@ from verified_program import ask
 
 FAULTS = .05
 STYLES = ("boosted", "optimistic", "hardware")
-CERTIFY = '#!/bin/sh\nexec "{}" certify\n'
 
 
 class RunOfParts(Run):
@@ -77,17 +74,6 @@ def written(folder, given):
     return files
 
 
-def program_in(folder, given):
-    """The program, or one in this folder that asks `certify` in place of `judge`."""
-    program = str(pathlib.Path(given.program).resolve())
-    if not given.certify:
-        return program
-    path = folder / "program"
-    path.write_text(CERTIFY.format(program))
-    path.chmod(0o755)
-    return str(path)
-
-
 def main():
     parser = argparse.ArgumentParser(description="Compares check with judge.")
     parser.add_argument("program", metavar="PROGRAM")
@@ -95,12 +81,10 @@ def main():
     parser.add_argument("--count", type=int, default=1000, help="how many runs")
     parser.add_argument("--seed", type=int, default=1)
     parser.add_argument("--jobs", type=int, default=2, help="how many runs at a time")
-    parser.add_argument("--certify", action="store_true", help="ask certify in place of judge")
     given = parser.parse_args()
     counts = collections.Counter()
     with tempfile.TemporaryDirectory() as name, concurrent.futures.ThreadPoolExecutor(given.jobs) as pool:
-        folder = pathlib.Path(name)
-        program, files = program_in(folder, given), written(folder, given)
+        program, files = str(pathlib.Path(given.program).resolve()), written(pathlib.Path(name), given)
         asked = [(program, path, jobs) for path in files for jobs in (4, 2)]
         for verdict, different in pool.map(lambda one: difference(*one), asked):
             if different:

@@ -26,7 +26,7 @@ WRONG_ARGUMENTS = 2
 
 PROGRAM_COMMANDS = {
     "certify": "decide a run: accepted with its serial run, or rejected with what shows it",
-    "judge": "decide a run of style rules, boosted or optimistic, of any number of steps, as `certify` does",
+    "judge": "decide a run of any style and length, as `certify` does",
     "quick": "decide a run of style boosted, of any number of steps",
     "expand": "print the steps that the records of a run stand for, as a run of style rules",
     "views": "print for each attempt of an accepted run what it saw",

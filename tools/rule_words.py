@@ -65,7 +65,6 @@ FAULTS = {
     "TooManyTransactions": "the run has more than 20,000 begin records",
     "TooManySteps": "the records stand for more than 200,000 steps",
     "NotBoosted": "`quick` decides runs of style boosted only",
-    "StyleNotJudged": "`judge` does not judge runs of this style",
     "NotCertificate": "the line is not of the form that a certificate has here",
 }
 CAUSE = re.compile(r"([A-Za-z]+)(?:\(([a-z]+)\))?")

@@ -16,15 +16,14 @@ BEGIN = ["begin t1 p1", "begin t2 p2"]
 ACCEPTED = [*BEGIN, "op t1 1 a.add(5)=none", "op t2 2 b.write(0,1)=none", "commit t1", "op t2 3 a.get()=5", "commit t2"]
 OBJECTS = "a:counter b:mem"
 LONG_BLANK = b" " * 60_000 + b"\n"
-ASKS_CERTIFY = '#!/bin/sh\nexec "{}" certify\n'
 
 
-def checked(data, jobs=256, program=PROGRAM):
+def checked(data, jobs=256):
     """What `check` prints, and its status."""
     with tempfile.TemporaryFile() as file:
         file.write(data)
         file.seek(0)
-        result = check(program, file, jobs)
+        result = check(PROGRAM, file, jobs)
     return result.output.decode(), result.status
 
 
@@ -151,13 +150,11 @@ class Verdicts(Temporary):
                              f"rejected line 1 START 2\nentry {name[1]} gives 0\nlocal: 2 parts\nrejected: the object {name}\n")
 
     def test_object_of_a_commit(self):
-        program = self.file("program", ASKS_CERTIFY.format(PROGRAM).encode())
-        program.chmod(0o755)
         for name in ("m1", "m4"):
             records = ["begin t1 p1", *(f"op t1 {number} m{number}.read(0)=0" for number in range(6)), "begin t2 p2", f"op t2 9 {name}.write(0,1)=none",
                        "commit t2", "commit t1"]
             data = run_bytes("optimistic", " ".join(f"m{number}:mem" for number in range(6)), records)
-            self.assertEqual(checked(data, 2, program)[0],
+            self.assertEqual(checked(data, 2)[0],
                              f"rejected line 12 PUSH 5\nentry {name[1]} gives 1\nlocal: 2 parts\nrejected: the object {name}\n")
 
     def test_rejected_in_the_bookkeeping(self):
@@ -271,14 +268,14 @@ class Verdicts(Temporary):
 class RandomRuns(Temporary):
     """Random runs of several objects, against the whole."""
 
-    def compare(self, style, program, count):
+    def compare(self, style, count):
         chosen, verdicts = random.Random(style), set()
         for _ in range(count):
             maker = Maker(chosen, style)
             maker.kinds = [chosen.choice(KINDS) for _ in range(chosen.choice((2, 3)))]
             data = "".join(json.dumps(line) + "\n" for line in maker.run()).encode()
-            judged = ask(program, ["judge"], data)
-            printed, status = checked(data, chosen.choice((2, 3)), program)
+            judged = ask(PROGRAM, ["judge"], data)
+            printed, status = checked(data, chosen.choice((2, 3)))
             is_whole = "\njudged whole: " in printed
             self.assertTrue(printed.startswith(judged.text if is_whole else expected(judged.text)), data.decode())
             self.assertEqual(status, judged.status)
@@ -286,24 +283,21 @@ class RandomRuns(Temporary):
         self.assertGreater(len(verdicts), 4)
 
     def test_boosted(self):
-        self.compare("boosted", PROGRAM, 80)
+        self.compare("boosted", 80)
 
-    def test_styles_that_judge_may_not_take(self):
-        """By `certify` in the place of `judge`: it prints the same."""
-        program = self.file("program", ASKS_CERTIFY.format(PROGRAM).encode())
-        program.chmod(0o755)
-        self.compare("optimistic", program, 80)
-        self.compare("hardware", program, 80)
+    def test_optimistic(self):
+        self.compare("optimistic", 80)
+
+    def test_hardware(self):
+        self.compare("hardware", 80)
 
     def test_two_parts_that_are_rejected_on_one_line(self):
         """The commit pushes a call on each of two objects. The one that was made first counts."""
-        program = self.file("program", ASKS_CERTIFY.format(PROGRAM).encode())
-        program.chmod(0o755)
         others = ["begin t2 p2", "op t2 5 a.add(1)=none", "op t2 6 b.write(0,3)=none", "commit t2"]
         for first, second, name in (("op t1 1 a.get()=0", "op t1 2 b.read(0)=0", "a"), ("op t1 2 b.read(0)=0", "op t1 1 a.get()=0", "b")):
             data = run_bytes("optimistic", OBJECTS, ["begin t1 p1", first, second, *others, "commit t1"])
             entry = "entry 1 gives 1" if name == "a" else "entry 2 gives 3"
-            self.assertEqual(checked(data, program=program)[0],
+            self.assertEqual(checked(data)[0],
                              f"rejected line 9 PUSH 5\n{entry}\nlocal: 2 parts\nrejected: the object {name}\n")
 
 
