@@ -3,13 +3,13 @@
 
     python3 bench/judge.py PROGRAM [--style boosted] [--count N] [--long N] [--seed S] [--jobs J]
 
-`--count` is the number of short runs and `--long` that of long ones. Most long boosted and optimistic runs have more than
-200,000 steps. The definition takes some seconds for a long run. `judge` has to print what the definition prints within the
+`--count` is the number of short runs and `--long` that of long ones. Most long runs have more than 200,000 steps, except in
+style rules. The definition takes some seconds for a long run. `judge` has to print what the definition prints within the
 limits of `judge`, and what `certify` prints unless that is a limit that `judge` raises. The first run on which it does
 not is shown.
 
-The status is 1 if there is such a run. It is 1 too if `certify` printed TooManySteps for no long run of these two styles,
-or if no run violates one of the criteria below first, with as many short runs as usual. Else it is 0.
+The status is 1 if there is such a run. It is 1 too if `certify` printed TooManySteps for no long run of such a style, as may
+happen if there are few, or if no run violates one of the criteria below first, with as many short runs as usual. Else it is 0.
 """
 import argparse
 import collections
